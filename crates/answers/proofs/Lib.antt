@@ -1,0 +1,4 @@
+pub mod Every
+pub mod Above
+pub mod Claims
+pub mod Laws
