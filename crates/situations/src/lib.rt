@@ -1,0 +1,141 @@
+// Situations: n answers, one for each column, n from 1 to 6. The check that every call on a situation starts with, and merging.
+//
+// It promises that a merger is the join column by column, and that a refused merge hands back the first situation as it came.
+// It refuses by SITUATION: a length outside 1 to 6 (place: the length), else the first answer above 3 (place: its index).
+// A merge looks at its first operand so, then at its second, then at unequal lengths (place: the second's length).
+ghost use mathlib.Core.Path.{_≡_};
+ghost use Prim.Native.Nat.{_≤_};
+ghost use lib.ListN.{length};
+ghost use Rattle.situations.specs.Meaning.{fault, faultOf, mergeBytes, mergeOf};
+ghost use Rattle.situations.specs.Inside.{joinNumbers};
+use refusals::Refusal;
+use refusals::SITUATION;
+
+// A situation by value. Only the answers below the length count.
+pub struct Situation {
+    pub length: usize,
+    pub answers: [u8; 6],
+}
+
+pub struct Merged {
+    pub refusal: Refusal,
+    pub situation: Situation,
+}
+
+// What is wrong with a situation of these bytes.
+pub fn fault(situation: &[u8]) -> Refusal
+    ensures { λ r. ⌜ r ≡ fault (now (situation .entry)) ⌝ }
+{
+    let length = situation.len();
+    if length < 1 {
+        return Refusal {
+            number: SITUATION,
+            place: length,
+            second: 0,
+        };
+    }
+    if 6 < length {
+        return Refusal {
+            number: SITUATION,
+            place: length,
+            second: 0,
+        };
+    }
+    let place = answers::bytes::first_above(situation, 3);
+    if place < length {
+        return Refusal {
+            number: SITUATION,
+            place,
+            second: 0,
+        };
+    }
+    Refusal {
+        number: 0,
+        place: 0,
+        second: 0,
+    }
+}
+
+// The number of the join of two answers with these numbers.
+fn join_numbers(p: u8, q: u8) -> u8
+    ensures { λ r. ⌜ r ≡ joinNumbers p q ⌝ }
+{
+    answers::number(answers::operators::join(answers::from_number(p), answers::from_number(q)))
+}
+
+// The first n answers joined with the other's, the rest as they came.
+fn joined(answers: [u8; 6], other: [u8; 6], n: usize) -> [u8; 6]
+    requires { ⌜ n ≤ 6 ⌝ }
+    ensures { λ r. ⌜ r ≡ mergeBytes n answers other ⌝ }
+{
+    let mut merged = answers;
+    let mut i = 0;
+    while i < n {
+        merged[i] = join_numbers(answers[i], other[i]);
+        i += 1;
+    }
+    merged
+}
+
+impl Situation {
+    // What is wrong with this situation.
+    pub fn fault(self) -> Refusal
+        ensures { λ r. ⌜ r ≡ faultOf self ⌝ }
+    {
+        let length = self.length;
+        let answers = self.answers;
+        if 6 < length {
+            return Refusal {
+                number: SITUATION,
+                place: length,
+                second: 0,
+            };
+        }
+        fault(&answers[..length])
+    }
+
+    // This situation joined with another one, column by column.
+    pub fn merge(self, other: Situation) -> Merged
+        ensures { λ r. ⌜ r ≡ mergeOf self other ⌝ }
+    {
+        let first = self.fault();
+        if first.number != 0 {
+            return Merged {
+                refusal: first,
+                situation: self,
+            };
+        }
+        let second = other.fault();
+        if second.number != 0 {
+            return Merged {
+                refusal: second,
+                situation: self,
+            };
+        }
+        let length = self.length;
+        let others = other.length;
+        if length != others {
+            return Merged {
+                refusal: Refusal {
+                    number: SITUATION,
+                    place: others,
+                    second: 0,
+                },
+                situation: self,
+            };
+        }
+        let answers = self.answers;
+        let more = other.answers;
+        Merged {
+            refusal: Refusal {
+                number: 0,
+                place: 0,
+                second: 0,
+            },
+            situation: Situation {
+                length,
+                answers: joined(answers, more, length),
+            },
+        }
+    }
+}
