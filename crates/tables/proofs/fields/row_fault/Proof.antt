@@ -1,0 +1,44 @@
+use Rattle.tables.proofs.Reading.{rowFault-short, rowFault-tag, rowFault-rows, rowFault-length, rowFault-cut, rowFault-values}
+use borrow.Author.Needs.{needs}
+use Rattle.tables.proofs.fields.row_fault.Statement.{statement}
+use Rattle.tables.proofs.fields.row_fault.Tie as tie
+
+returns : tie.Need-returns
+returns c = search (needs, rowFault-short)
+
+returns-2 : tie.Need-returns-2
+returns-2 c = search (needs, rowFault-tag)
+
+returns-3 : tie.Need-returns-3
+returns-3 c = search (needs, rowFault-rows)
+
+returns-4 : tie.Need-returns-4
+returns-4 c = search (needs, rowFault-length)
+
+returns-5 : tie.Need-returns-5
+returns-5 c = search (needs, rowFault-cut)
+
+returns-6 : tie.Need-returns-6
+returns-6 c = search (needs, rowFault-values)
+
+pub row-fault-spec : {M : Type 1} → statement M
+row-fault-spec =
+    tie.close
+    (tie.spec
+    (λ c. search needs)
+    (λ c κs. search needs)
+    returns
+    (λ c. search needs)
+    (λ c κs. search needs)
+    returns-2
+    (λ c κs. search needs)
+    returns-3
+    (λ c. search needs)
+    (λ c κs. search needs)
+    (λ c κs. search needs)
+    returns-4
+    (λ c. search needs)
+    (λ c κs. search needs)
+    returns-5
+    (λ c κs. search needs)
+    returns-6)
