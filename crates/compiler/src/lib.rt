@@ -1,0 +1,58 @@
+// Compiling a table to a flat array of one-byte nodes in a lent buffer.
+//
+// It promises that a table is accepted exactly when it is read and its nodes, counted by the published formula, fit the
+// buffer; that the nodes then stand at the buffer's front and nothing else is written; and that a refused call writes nothing.
+// It refuses as reading does, then by ROOM (place: nodes needed).
+ghost use mathlib.Core.Path.{_≡_};
+ghost use lib.ListN.{length};
+ghost use Rattle.compiler.specs.Meaning.{refuseCompiled, compileOf, writtenOf};
+
+mod sizes;
+mod writing;
+
+use refusals::ROOM;
+use refusals::Refusal;
+
+// What compiling gives: columns, rows read and nodes written, all 0 in a refusal.
+pub struct Compiled {
+    pub refusal: Refusal,
+    pub columns: usize,
+    pub rows: usize,
+    pub nodes: usize,
+}
+
+fn refuse(refusal: Refusal) -> Compiled
+    ensures { λ r. ⌜ r ≡ refuseCompiled refusal ⌝ }
+{
+    Compiled {
+        refusal,
+        columns: 0,
+        rows: 0,
+        nodes: 0,
+    }
+}
+
+// Compiles a table. The nodes are counted before the first of them is written.
+pub fn compile(table: &[u8], nodes: &mut [u8]) -> Compiled
+    ensures reply { λ r. ⌜ r ≡ compileOf (now (table .entry)) (length (now (nodes .entry))) ⌝ }
+    ensures written { λ r. ⌜ now (nodes .exit) ≡ writtenOf (now (table .entry)) (now (nodes .entry)) ⌝ }
+{
+    let read = tables::read_table(table);
+    let fault = read.refusal;
+    if fault.number != 0 {
+        return refuse(fault);
+    }
+    let columns = read.columns;
+    let rows = read.rows;
+    let needed = sizes::table_size(table, columns, rows);
+    if nodes.len() < needed {
+        return refuse(refusals::refused(ROOM, needed));
+    }
+    writing::put_table(nodes, table, columns, rows);
+    Compiled {
+        refusal: fault,
+        columns,
+        rows,
+        nodes: needed,
+    }
+}
