@@ -1,0 +1,9 @@
+pub mod Digits
+pub mod Decoding
+pub mod Stepping
+pub mod Turning
+pub mod Passing
+pub mod Going
+pub mod Leading
+pub mod Deeper
+pub mod Alike
