@@ -1,0 +1,3 @@
+pub mod Picking
+pub mod Answering
+pub mod Trees
