@@ -1,0 +1,6 @@
+pub mod Bitwise
+pub mod Columns
+pub mod Acting
+pub mod Lapping
+pub mod Filling
+pub mod Blocks
