@@ -1,0 +1,4 @@
+pub mod Mergers
+pub mod Searches
+pub mod Verdicts
+pub mod Histories

@@ -1,0 +1,92 @@
+-- No failing step is the law over all mergers: one situation grows into another by steps, one column at a time.
+use Prim.Native.Nat.{ℕ, zero, suc}
+use mathlib.Core.Path.{_≡_, refl, ap₂, sym, _∙_}
+use mathlib.Core.List.{List, [], _∷_}
+use lib.Dec.{T}
+use lib.ListN.{length, getD, set, replicate, length-set}
+use native.Mathlib.Omega.{arith}
+use Rattle.answers.specs.Meaning.{join, contained}
+use Rattle.answers.specs.declared.Answer.{Answer}
+use Rattle.answers.specs.declared.Answer.the-variants.{Silent, Bury, Keep, Clash}
+use Rattle.answers.proofs.Every.{each, all2}
+use Rattle.answers.proofs.Laws.{contained-order}
+use Rattle.situations.specs.Meaning.{merge, Within, raises, Step, Chain, here, step}
+use Rattle.situations.proofs.Merging.{merge-left, merge-right}
+use Rattle.situations.proofs.Steps.{step-within, within-chain}
+use Rattle.growing.specs.Meaning.{Grows, FailingStep}
+
+-- every step keeps what was said
+abbrev pub StepsGrow : (List Answer → Answer) → ℕ → Type 0
+StepsGrow f n = (s : List Answer) (column : ℕ) (a : Answer) → length s ≡ n → Step s column a → T (contained (f s) (f (set s column a)))
+
+-- what contains the other is their merger
+never : {x y : Answer} → ⊥ → x ≡ y
+never h = absurd h
+
+join-contained : (x y : Answer) → T (contained x y) → join x y ≡ y
+join-contained = all2 _ (search never)
+
+pub merge-within : (s t : List Answer) → Within s t → merge s t ≡ t
+unfolding merge
+merge-within [] [] h = refl
+merge-within [] (y ∷ t) h = absurd h
+merge-within (x ∷ s) [] h = absurd h
+merge-within (x ∷ s) (y ∷ t) h = ap₂ (λ a l. a ∷ l) (join-contained x y (h .0)) (merge-within s t (h .1))
+
+-- steps one after another
+pub chain-grows : (f : List Answer → Answer) (n : ℕ) → StepsGrow f n → {s t : List Answer} → Chain s t → length s ≡ n → T (contained (f s) (f t))
+chain-grows f n h {s} here e = contained-order .reflexive (f s)
+chain-grows f n h {s} {t} (step column a k more) e =
+    contained-order .transitive (f s) (f (set s column a)) (f t) (h s column a e k) (chain-grows f n h more (length-set s column a ∙ e))
+
+pub steps-grow : (f : List Answer → Answer) (n : ℕ) → StepsGrow f n → Grows f n
+steps-grow f n h =
+    record {
+      first = λ s t a b. chain-grows f n h (within-chain s (merge s t) (merge-left s t)) a;
+      second = λ s t a b. chain-grows f n h (within-chain t (merge s t) (merge-right s t (a ∙ sym b))) b;
+    }
+
+-- the law is growth along containment, and so at each step
+pub grow-within : (f : List Answer → Answer) (n : ℕ) → Grows f n → (s t : List Answer) → length s ≡ n → length t ≡ n → Within s t → T (contained (f s) (f t))
+grow-within f n g s t a b w = rw (merge-within s t w) at (g .first s t a b)
+
+pub grow-steps : (f : List Answer → Answer) (n : ℕ) → Grows f n → StepsGrow f n
+grow-steps f n g s column a e k =
+    grow-within f n g s (set s column a) e (length-set s column a ∙ e) (step-within s column a k)
+
+-- the claim that a step adds, alone
+abbrev pub added : Answer → Answer → Answer
+added Silent a = a
+added Bury a = Keep
+added Keep a = Bury
+added Clash a = Silent
+
+abbrev pub alone : List Answer → ℕ → Answer → List Answer
+alone s column a = set (replicate (length s) Silent) column (added (getD s column Silent) a)
+
+join-added : (x a : Answer) → T (raises x a) → join x (added x a) ≡ a
+join-added = all2 _ (search never)
+
+join-silent : (x : Answer) → join x Silent ≡ x
+join-silent = each _ (search refl)
+
+merge-silent : (s : List Answer) → merge s (replicate (length s) Silent) ≡ s
+unfolding merge
+merge-silent [] = refl
+merge-silent (x ∷ s) = ap₂ (λ a l. a ∷ l) (join-silent x) (merge-silent s)
+
+pub merge-alone : (s : List Answer) (column : ℕ) (a : Answer) → Step s column a → merge s (alone s column a) ≡ set s column a
+unfolding merge
+merge-alone [] column a k = absurd (let l = k .inside in omega arith)
+merge-alone (x ∷ s) zero a k = ap₂ (λ b l. b ∷ l) (join-added x a (k .raised)) (merge-silent s)
+merge-alone (x ∷ s) (suc column) a k =
+    ap₂ (λ b l. b ∷ l) (join-silent x)
+    (merge-alone s column a (record { inside = let l = k .inside in omega arith; raised = k .raised }))
+
+-- a failing step breaks the law, at the situation and the claim that the step adds
+pub failing-breaks :
+    (f : List Answer → Answer) (s : List Answer) (column : ℕ) (a : Answer) →
+    FailingStep f s column a →
+    T (contained (f s) (f (merge s (alone s column a)))) →
+    ⊥
+failing-breaks f s column a h g = h .lost (rw (merge-alone s column a (h .step)) at g)
