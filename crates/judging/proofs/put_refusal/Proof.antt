@@ -1,0 +1,20 @@
+use Rattle.judging.proofs.Lines.{refusal-all}
+use borrow.Author.Needs.{needs}
+use Rattle.judging.proofs.put_refusal.Statement.{statement}
+use Rattle.judging.proofs.put_refusal.Tie as tie
+
+returns : tie.Need-returns
+returns c = search (needs, refusal-all)
+
+pub put-refusal-spec : {M : Type 1} → statement M
+put-refusal-spec =
+    tie.close
+    (tie.spec
+    (λ c. search needs)
+    (λ c κs. search needs)
+    (λ c. search needs)
+    (λ c κs. search needs)
+    (λ c κs. search needs)
+    (λ c κs. search needs)
+    (λ c. search needs)
+    returns)
