@@ -1,0 +1,75 @@
+-- The replies of the C face: the numbers of the replies that the functions behind it give, each 64 bits wide.
+use mathlib.Core.Bool.{cond}
+use Rattle.answers.specs.Meaning.{number}
+use Rattle.answers.specs.declared.Reply.{Reply}
+use Rattle.answers.specs.declared.bytes.Related.{Related}
+use Rattle.situations.specs.declared.Situation.{Situation}
+use Rattle.situations.specs.declared.Merged.{Merged}
+use Rattle.notices.specs.declared.Noticed.{Noticed}
+use Rattle.compiler.specs.declared.Compiled.{Compiled}
+use Rattle.growth.specs.declared.Growth.{Growth}
+use Rattle.carmuspeno.specs.declared.CarmAnswer.{CarmAnswer}
+use Rattle.carmuspeno.specs.declared.CarmCompiled.{CarmCompiled}
+use Rattle.carmuspeno.specs.declared.CarmSituation.{CarmSituation}
+use Rattle.carmuspeno.specs.declared.CarmMerged.{CarmMerged}
+use Rattle.carmuspeno.specs.declared.CarmGrowth.{CarmGrowth}
+use Rattle.carmuspeno.specs.declared.CarmNoticed.{CarmNoticed}
+
+-- "Every reply starts with the three numbers of document 01: number (0 is success), place, second."
+abbrev pub answerFace : Reply → CarmAnswer
+answerFace r =
+    record { number = r .refusal .number; place = r .refusal .place; second = r .refusal .second; answer = number (r .answer) }
+
+-- "Answer 1 if p is contained in q, else 0."
+abbrev pub containedFace : Related → CarmAnswer
+containedFace r =
+    record { number = r .refusal .number; place = r .refusal .place; second = r .refusal .second; answer = cond (r .contained) 1 0 }
+
+-- "columns, rows (rows read) and nodes (nodes written) are 0 in a refusal."
+abbrev pub compiledFace : Compiled → CarmCompiled
+compiledFace r =
+    record {
+      number = r .refusal .number;
+      place = r .refusal .place;
+      second = r .refusal .second;
+      columns = r .columns;
+      rows = r .rows;
+      nodes = r .nodes;
+    }
+
+-- A situation is its length and six bytes on both sides.
+abbrev pub situationFace : Situation → CarmSituation
+situationFace s = record { length = s .length; answers = s .answers }
+
+abbrev pub situationBehind : CarmSituation → Situation
+situationBehind s = record { length = s .length; answers = s .answers }
+
+-- "On success situation has the common length, the joined answers, and from the length on the first operand's bytes as they
+-- came. On a refusal it is the first operand as it came."
+abbrev pub mergedFace : Merged → CarmMerged
+mergedFace r =
+    record {
+      number = r .refusal .number;
+      place = r .refusal .place;
+      second = r .refusal .second;
+      situation = situationFace (r .situation);
+    }
+
+-- "verdict is 0 for neither (a refusal), 1 for yes, 2 for no. On a no, situation has the length and the answers of the first
+-- failing step, places from its length on 0, column and answer say the step. Otherwise they are all 0."
+abbrev pub growthFace : Growth → CarmGrowth
+growthFace r =
+    record {
+      number = r .refusal .number;
+      place = r .refusal .place;
+      second = r .refusal .second;
+      verdict = r .verdict;
+      situation = situationFace (r .situation);
+      column = r .column;
+      answer = r .answer;
+    }
+
+-- "facts is the number of facts read, 0 in a refusal."
+abbrev pub noticedFace : Noticed → CarmNoticed
+noticedFace r =
+    record { number = r .refusal .number; place = r .refusal .place; second = r .refusal .second; facts = r .facts }
