@@ -1,0 +1,11 @@
+pub mod Examples
+pub mod Merging
+pub mod Determined
+pub mod Tables
+pub mod Evaluating
+pub mod Compiling
+pub mod Speaking
+pub mod Growing
+pub mod Laptops
+pub mod Face
+pub mod Judging

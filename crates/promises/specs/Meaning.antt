@@ -1,0 +1,83 @@
+-- Words in which the promises are said.
+use Prim.Native.Nat.{ℕ}
+use mathlib.Core.Path.{_≡_}
+use mathlib.Core.List.{List, [], _∷_, _++_}
+use borrow.Fn.Kinds.{PK, RK, Out, Dens, resT, endedOf}
+use denote.Triple.Clauses.{AtExit}
+use contract.Lifetimes.{Lfts, Within}
+use borrow.Kind.ShrSlice.{rShrS}
+use borrow.Table.Referent.{rtF, fInt}
+use mir.Syntax.{w8}
+use denote.Ref.{now}
+use lib.ListN.{length, take}
+use Rattle.situations.specs.declared.Situation.{Situation}
+use Rattle.situations.specs.Meaning.{mergeOf}
+use Rattle.tables.specs.Meaning.{readOf}
+use Rattle.compiler.specs.Meaning.{compileOf, writtenOf}
+
+-- "Prove that any two outcomes allowed by it are equal": the results of a function that lends out no memory to be written.
+-- `Post` is the function's own contract: its `ensures`, of the arguments, the result and the arguments at exit.
+pub record Determined {n : ℕ} (ps : List (PK n)) (r : RK n) (Post : Out n ps r) : Type 0 where
+  pub result :
+      (κs : Lfts n) (a : Dens κs ps) (x y : resT r κs .Denot) (s t : AtExit (endedOf n ps r) κs) →
+      Post κs a x s →
+      Post κs a y t →
+      x ≡ y
+
+-- The same of a function that hands back a part of the bytes it was lent: what the part's bytes are.
+abbrev pub BytesPart : (n j : ℕ) → Within n j → RK n
+BytesPart n j ok = rShrS (rtF (fInt w8)) j ok
+
+pub record DeterminedPart {n : ℕ} (ps : List (PK n)) (j : ℕ) (ok : Within n j) (Post : Out n ps (BytesPart n j ok)) : Type 0 where
+  pub bytes :
+      (κs : Lfts n) (a : Dens κs ps) (x y : resT {n = n} (BytesPart n j ok) κs .Denot) (s t : AtExit (endedOf n ps (BytesPart n j ok)) κs) →
+      Post κs a x s →
+      Post κs a y t →
+      now x ≡ now y
+
+-- The same of a function that writes into lent memory: what it returns, and the lent bytes at its exit.
+pub record DeterminedLent
+    {n : ℕ}
+    (ps : List (PK n))
+    (r : RK n)
+    (Post : Out n ps r)
+    (exit : (κs : Lfts n) → AtExit (endedOf n ps r) κs → List ℕ) :
+    Type 0 where
+  pub result :
+      (κs : Lfts n) (a : Dens κs ps) (x y : resT r κs .Denot) (s t : AtExit (endedOf n ps r) κs) →
+      Post κs a x s →
+      Post κs a y t →
+      x ≡ y
+  pub lent :
+      (κs : Lfts n) (a : Dens κs ps) (x y : resT r κs .Denot) (s t : AtExit (endedOf n ps r) κs) →
+      Post κs a x s →
+      Post κs a y t →
+      exit κs s ≡ exit κs t
+
+-- Every situation by value has six bytes for answers.
+unfoldable pub SixBytes : Situation → Type 0
+SixBytes s = length (s .answers) ≡ 6
+
+-- A merge that is not refused.
+unfoldable pub Merges : Situation → Situation → Type 0
+Merges s t = mergeOf s t .refusal .number ≡ 0
+
+-- Bytes that the reader of tables takes.
+unfoldable pub Accepts : List ℕ → Type 0
+Accepts bytes = readOf bytes .refusal .number ≡ 0
+
+-- A table that the compiler accepts with this lent buffer.
+unfoldable pub Compiles : List ℕ → List ℕ → Type 0
+Compiles bytes lent = compileOf bytes (length lent) .refusal .number ≡ 0
+
+-- The nodes that compiling leaves at the front of the lent buffer.
+unfoldable pub nodesWritten : List ℕ → List ℕ → List ℕ
+nodesWritten bytes lent = take (compileOf bytes (length lent) .nodes) (writtenOf bytes lent)
+
+-- What document 01 prints for the laptop table, each line with its line feed: "columns 2", "rows 6", "nodes 65", "growth no 0 1 column 0 to 2".
+abbrev pub laptopText : List ℕ
+laptopText =
+    (99 ∷ 111 ∷ 108 ∷ 117 ∷ 109 ∷ 110 ∷ 115 ∷ 32 ∷ 50 ∷ 10 ∷ [])
+    ++ (114 ∷ 111 ∷ 119 ∷ 115 ∷ 32 ∷ 54 ∷ 10 ∷ [])
+    ++ (110 ∷ 111 ∷ 100 ∷ 101 ∷ 115 ∷ 32 ∷ 54 ∷ 53 ∷ 10 ∷ [])
+    ++ (103 ∷ 114 ∷ 111 ∷ 119 ∷ 116 ∷ 104 ∷ 32 ∷ 110 ∷ 111 ∷ 32 ∷ 48 ∷ 32 ∷ 49 ∷ 32 ∷ 99 ∷ 111 ∷ 108 ∷ 117 ∷ 109 ∷ 110 ∷ 32 ∷ 48 ∷ 32 ∷ 116 ∷ 111 ∷ 32 ∷ 50 ∷ 10 ∷ [])
