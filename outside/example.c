@@ -1,0 +1,52 @@
+/* A small use of the C face: compile a table, ask what it answers, see whether it grows, let a voice speak. */
+#include <inttypes.h>
+#include <stdio.h>
+
+#include "carmuspeno.h"
+
+/* Two columns, laptop and library; each row is 02 00 03, two cells, an outcome. 4 is any. */
+static const uint8_t table[] = {
+    1, 0, 1, 2,        /* two columns */
+    2, 0, 3, 1, 4, 1,  /* laptop buries: bury */
+    2, 0, 3, 2, 4, 2,  /* laptop keeps: keep */
+    2, 0, 3, 3, 4, 3,  /* laptop clashes: clash */
+    2, 0, 3, 0, 1, 1,  /* laptop is silent: as the library says */
+    2, 0, 3, 0, 2, 2,
+    2, 0, 3, 0, 3, 3,
+};
+
+static const char *const words[] = { "silent", "bury", "keep", "clash" };
+
+int main(void)
+{
+    uint8_t nodes[4223]; /* room for every lawful table */
+    carm_compiled made = carm_compile(table, sizeof table, nodes, sizeof nodes);
+    if (made.number != 0) {
+        printf("refused %" PRIu64 " at %" PRIu64 "\n", made.number, made.place);
+        return 1;
+    }
+    printf("compiled: %" PRIu64 " columns, %" PRIu64 " rows, %" PRIu64 " nodes\n", made.columns, made.rows, made.nodes);
+
+    const uint8_t situation[] = { 0, 1 };
+    carm_answer said = carm_evaluate(nodes, made.nodes, situation, sizeof situation);
+    printf("laptop silent, library bury: %s\n", words[said.answer]);
+
+    carm_growth growth = carm_check_growth(nodes, made.nodes, made.columns);
+    if (growth.verdict == 1) {
+        printf("growth: yes\n");
+    } else {
+        printf("growth: no, from");
+        for (uint64_t column = 0; column < growth.situation.length; column++)
+            printf(" %s", words[growth.situation.answers[column]]);
+        printf(" with column %" PRIu64 " raised to %s\n", growth.column, words[growth.answer]);
+    }
+
+    /* keep, when fact 7 is not 1; the notice has no fact */
+    const uint8_t voice[] = { 24, 40, 43, 0, 7, 0, 0, 0, 1, 2 };
+    printf("voice: %s\n", words[carm_speak(NULL, 0, voice, sizeof voice).answer]);
+
+    /* one byte of room too few */
+    carm_compiled refused = carm_compile(table, sizeof table, nodes, made.nodes - 1);
+    printf("with a byte less: refused %" PRIu64 " (ROOM), %" PRIu64 " nodes needed\n", refused.number, refused.place);
+    return 0;
+}
