@@ -1,0 +1,197 @@
+/* bench list             the names of the jobs, with how often each is best repeated
+ * bench JOB REPETITIONS  does the job so often and prints its last reply
+ *
+ * Linked once with the archive and once with each peer; the calls are the same, and no call can be inlined. */
+#include <inttypes.h>
+#include <stdio.h>
+#include <stdlib.h>
+#include <string.h>
+
+#include "carmuspeno.h"
+
+enum { MOST_NODES = 4223 };
+
+static uint8_t table[1024], nodes[MOST_NODES], notice[32 * 9], voice[200];
+static size_t table_len, nodes_len, notice_len, voice_len;
+
+/* ---- inputs ---- */
+
+static void start_table(uint8_t columns)
+{
+    const uint8_t head[] = { 1, 0, 1, columns };
+    memcpy(table, head, sizeof head);
+    table_len = sizeof head;
+}
+
+static void add_row(const uint8_t *row)
+{
+    uint8_t size = table[3] + 1;
+    const uint8_t head[] = { 2, 0, size };
+    memcpy(table + table_len, head, sizeof head);
+    memcpy(table + table_len + sizeof head, row, size);
+    table_len += sizeof head + size;
+}
+
+static void laptop(void)
+{
+    static const uint8_t rows[6][3] = { { 1, 4, 1 }, { 2, 4, 2 }, { 3, 4, 3 }, { 0, 1, 1 }, { 0, 2, 2 }, { 0, 3, 3 } };
+    start_table(2);
+    for (int row = 0; row < 6; row++) add_row(rows[row]);
+}
+
+/* 64 equal rows: every pair is looked at, and no table has more nodes */
+static void largest(void)
+{
+    start_table(6);
+    for (int row = 0; row < 64; row++) add_row((const uint8_t[]){ 0, 0, 0, 0, 0, 0, 3 });
+}
+
+/* grows, in six columns: keep where a column clashes, bury nowhere */
+static void growing(void)
+{
+    start_table(6);
+    for (int column = 0; column < 6; column++) {
+        uint8_t row[7] = { 4, 4, 4, 4, 4, 4, 2 };
+        row[column] = 3;
+        add_row(row);
+    }
+}
+
+static void compiled(void (*make)(void))
+{
+    make();
+    nodes_len = carm_compile(table, table_len, nodes, sizeof nodes).nodes;
+}
+
+/* 32 facts, numbers 0, 3, 6 and so on */
+static void full_notice(void)
+{
+    for (int fact = 0; fact < 32; fact++) {
+        const uint8_t field[] = { 16, 0, 6, 0, (uint8_t)(3 * fact), 0, 0, 0, (uint8_t)fact };
+        memcpy(notice + notice_len, field, sizeof field);
+        notice_len += sizeof field;
+    }
+}
+
+/* sixteen levels: a keep under fifteen times `when`, each asking for another fact, all of them true */
+static void nested_whens(void)
+{
+    full_notice();
+    for (int level = 0; level < 15; level++) {
+        uint8_t fact = (uint8_t)(2 * level);
+        const uint8_t when[] = { 24, 44, 0, (uint8_t)(3 * fact), 0, 0, 0, fact };
+        memcpy(voice + voice_len, when, sizeof when);
+        voice_len += sizeof when;
+    }
+    voice[voice_len++] = 2;
+}
+
+/* sixteen levels of operators over constants, and no notice */
+static void nested_operators(void)
+{
+    static const uint8_t codes[] = { 15, 18, 12, 14, 13 };
+    for (int level = 0; level < 15; level++) {
+        voice[voice_len++] = codes[level % 5];
+        voice[voice_len++] = (uint8_t)(level % 4);
+    }
+    voice[voice_len++] = 2;
+}
+
+/* ---- jobs ---- */
+
+static void make_laptop_nodes(void) { compiled(laptop); }
+static void make_largest_nodes(void) { compiled(largest); }
+static void make_growing_nodes(void) { compiled(growing); }
+
+static void print_growth(carm_growth r)
+{
+    printf("%" PRIu64 " %" PRIu64 " %" PRIu64 " %" PRIu64 " %" PRIu64 "\n", r.number, r.place, r.verdict, r.column, r.answer);
+}
+
+static void do_compile(long repetitions)
+{
+    carm_compiled r = { 0 };
+    while (repetitions--) r = carm_compile(table, table_len, nodes, sizeof nodes);
+    printf("%" PRIu64 " %" PRIu64 " %" PRIu64 " %d\n", r.number, r.place, r.nodes, nodes[r.nodes - 1]);
+}
+
+static void evaluate(long repetitions, const uint8_t *situation, size_t situation_len)
+{
+    carm_answer r = { 0 };
+    while (repetitions--) r = carm_evaluate(nodes, nodes_len, situation, situation_len);
+    printf("%" PRIu64 " %" PRIu64 " %" PRIu64 "\n", r.number, r.place, r.answer);
+}
+
+static void evaluate_two(long repetitions) { evaluate(repetitions, (const uint8_t[]){ 2, 1 }, 2); }
+static void evaluate_six(long repetitions) { evaluate(repetitions, (const uint8_t[]){ 0, 0, 0, 0, 0, 0 }, 6); }
+
+static void growth(long repetitions, uint64_t columns)
+{
+    carm_growth r = { 0 };
+    while (repetitions--) r = carm_check_growth(nodes, nodes_len, columns);
+    print_growth(r);
+}
+
+static void growth_two(long repetitions) { growth(repetitions, 2); }
+static void growth_six(long repetitions) { growth(repetitions, 6); }
+
+static void do_notice(long repetitions)
+{
+    carm_noticed r = { 0 };
+    while (repetitions--) r = carm_read_notice(notice, notice_len);
+    printf("%" PRIu64 " %" PRIu64 " %" PRIu64 "\n", r.number, r.place, r.facts);
+}
+
+static void do_speak(long repetitions)
+{
+    carm_answer r = { 0 };
+    while (repetitions--) r = carm_speak(notice, notice_len, voice, voice_len);
+    printf("%" PRIu64 " %" PRIu64 " %" PRIu64 "\n", r.number, r.place, r.answer);
+}
+
+static void nothing(void) {}
+
+static void do_merge(long repetitions)
+{
+    carm_situation second = { 6, { 0, 1, 2, 3, 1, 2 } };
+    carm_merged r = { 0, 0, 0, { 6, { 0, 0, 1, 1, 2, 2 } } };
+    while (repetitions--) r = carm_merge(r.situation, second);
+    printf("%" PRIu64 " %d%d%d\n", r.number, r.situation.answers[0], r.situation.answers[4], r.situation.answers[5]);
+}
+
+static const struct {
+    const char *name, *call, *input;
+    long repetitions;
+    void (*make)(void);
+    void (*work)(long);
+} jobs[] = {
+    { "compile-laptop", "compile", "L, 65 nodes", 200, laptop, do_compile },
+    { "compile-largest", "compile", "largest table, 4,223 nodes", 10, largest, do_compile },
+    { "evaluate-laptop", "evaluate", "L at (2, 1)", 1000, make_laptop_nodes, evaluate_two },
+    { "evaluate-largest", "evaluate", "largest table, all silent", 20, make_largest_nodes, evaluate_six },
+    { "growth-laptop", "check_growth", "L: no", 100, make_laptop_nodes, growth_two },
+    { "growth-growing", "check_growth", "six columns: yes, all steps", 2, make_growing_nodes, growth_six },
+    { "growth-largest", "check_growth", "largest table: no", 1, make_largest_nodes, growth_six },
+    { "notice-full", "read_notice", "32 facts", 500, full_notice, do_notice },
+    { "speak-whens", "speak", "16 levels of when, 32 facts", 200, nested_whens, do_speak },
+    { "speak-operators", "speak", "16 levels of operators, no fact", 500, nested_operators, do_speak },
+    { "merge-six", "merge", "six columns", 5000, nothing, do_merge },
+};
+
+enum { JOBS = sizeof jobs / sizeof jobs[0] };
+
+int main(int argc, char **argv)
+{
+    if (argc == 2 && strcmp(argv[1], "list") == 0) {
+        for (int i = 0; i < JOBS; i++) printf("%s|%ld|%s|%s\n", jobs[i].name, jobs[i].repetitions, jobs[i].call, jobs[i].input);
+        return 0;
+    }
+    for (int i = 0; argc == 3 && i < JOBS; i++)
+        if (strcmp(argv[1], jobs[i].name) == 0) {
+            jobs[i].make();
+            jobs[i].work(atol(argv[2]));
+            return 0;
+        }
+    fprintf(stderr, "bench list | bench JOB REPETITIONS\n");
+    return 2;
+}
