@@ -1,6 +1,8 @@
 -- The ways out of `decode`, which tests the commonest bytes first.
 use Prim.Native.Nat.{ℕ, _-_, _≤_, _<_}
 use mathlib.Core.Path.{_≡_}
+use mathlib.Core.Bool.{cond}
+use lib.Dec.{ltb, eqb}
 use borrow.Author.Tests.{lt-ltb, le-ltb, ne-eqb}
 use native.Mathlib.Omega.{arith}
 use Rattle.answers.specs.Meaning.{fromNumber}
@@ -9,6 +11,10 @@ use Rattle.nodes.specs.declared.Node.the-variants.{Constant, Negate, Tur
 use Rattle.nodes.specs.Meaning.{nodeOf}
 
 module _ (b : ℕ) where
+  -- a byte that the first four tests of the definition pass over
+  above : 6 < b → nodeOf b ≡ cond (eqb b 7) Join (cond (ltb b 16) Foreign (cond (ltb b 22) (Column (b - 16)) Foreign))
+  above h = rw (le-ltb b 4 (omega arith), ne-eqb b 4 (λ e. omega arith), ne-eqb b 5 (λ e. omega arith), ne-eqb b 6 (λ e. omega arith))
+
   pub is-turn : b ≡ 5 → Turn ≡ nodeOf b
   is-turn e = rw e
 
@@ -21,33 +27,14 @@ module _ (b : ℕ) where
   pub is-negate : b ≡ 4 → Negate ≡ nodeOf b
   is-negate e = rw e
 
-  pub is-constant : {a : Answer} → b < 4 → a ≡ fromNumber b → Constant a ≡ nodeOf b
-  is-constant h e = rw (lt-ltb b 4 h, e)
+  pub is-constant : {a : Answer} → b ≤ 6 → (b ≡ 4 → ⊥) → (b ≡ 5 → ⊥) → (b ≡ 6 → ⊥) → a ≡ fromNumber b → Constant a ≡ nodeOf b
+  is-constant h d e f g = let l : b < 4 = omega (arith, d, e, f) in rw (lt-ltb b 4 l, g)
 
-  pub is-column : {k : ℕ} → 16 ≤ b → b < 22 → k ≡ b - 16 → Column k ≡ nodeOf b
-  is-column h l e =
-      rw (
-        e,
-        le-ltb b 4 (omega arith),
-        ne-eqb b 4 (λ e. omega arith),
-        ne-eqb b 5 (λ e. omega arith),
-        ne-eqb b 6 (λ e. omega arith),
-        ne-eqb b 7 (λ e. omega arith),
-        le-ltb b 16 h,
-        lt-ltb b 22 l,
-      )
+  pub is-between : 6 < b → b < 16 → (b ≡ 7 → ⊥) → Foreign ≡ nodeOf b
+  is-between h l g = rw (above h, ne-eqb b 7 g, lt-ltb b 16 l)
+
+  pub is-column : {w : ℕ} → w ≡ b → 16 ≤ b → b < 22 → Column (w - 16) ≡ nodeOf b
+  is-column e h l = rw (e, above (omega arith), ne-eqb b 7 (λ e. omega arith), le-ltb b 16 h, lt-ltb b 22 l)
 
   pub is-beyond : 22 ≤ b → Foreign ≡ nodeOf b
-  is-beyond h =
-      rw (
-        le-ltb b 4 (omega arith),
-        ne-eqb b 4 (λ e. omega arith),
-        ne-eqb b 5 (λ e. omega arith),
-        ne-eqb b 6 (λ e. omega arith),
-        ne-eqb b 7 (λ e. omega arith),
-        le-ltb b 16 (omega arith),
-        le-ltb b 22 h,
-      )
-
-  pub is-between : 4 ≤ b → b < 16 → (b ≡ 4 → ⊥) → (b ≡ 5 → ⊥) → (b ≡ 6 → ⊥) → (b ≡ 7 → ⊥) → Foreign ≡ nodeOf b
-  is-between h l d e f g = rw (le-ltb b 4 h, ne-eqb b 4 d, ne-eqb b 5 e, ne-eqb b 6 f, ne-eqb b 7 g, lt-ltb b 16 l)
+  is-beyond h = rw (above (omega arith), ne-eqb b 7 (λ e. omega arith), le-ltb b 16 (omega arith), le-ltb b 22 h)

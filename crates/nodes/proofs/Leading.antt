@@ -1,7 +1,7 @@
 -- Where nodes lead, for every height of the stack: running an appended list is running the one and then the other
 -- (run-append). Pieces of nodes that lead from one stack to another are put together (leads-append), are run (leads-run,
 -- leads-answer), and there is a law for each node (leads-constant to leads-join).
-use Prim.Native.Nat.{ℕ, suc, _+_, _<_}
+use Prim.Native.Nat.{ℕ, suc, _+_, _-_, _<_}
 use mathlib.Core.Path.{_≡_, refl}
 use mathlib.Core.List.{List, [], _∷_, _++_}
 use lib.ListN.{length, getD}
@@ -123,12 +123,8 @@ module _ {height : ℕ} {s : List Answer} {stack : List Answer} where
       (k : ℕ) → k < 6 → k < length s → length stack < height → Leads height s ((16 + k) ∷ []) stack (getD s k Silent ∷ stack)
   unfolding step
   leads-column k six i l =
-      leads-one
-      (rw (
-        ← is-column (16 + k) {k = k} (omega arith) (omega arith) (omega arith),
-        lt-ltb k (length s) i,
-        lt-ltb (length stack) height l,
-      ))
+      let e : 16 + k - 16 ≡ k = omega arith in
+      leads-one (rw (← is-column (16 + k) refl (omega arith) (omega arith), e, lt-ltb k (length s) i, lt-ltb (length stack) height l))
 
   module _ {p : Answer} where
     pub leads-negate : Leads height s (4 ∷ []) (p ∷ stack) (negate p ∷ stack)

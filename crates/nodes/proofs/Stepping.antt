@@ -47,6 +47,41 @@ under-join height s [] h = refl
 under-join height s (q ∷ []) h = refl
 under-join height s (q ∷ p ∷ stack) h = absurd (omega arith)
 
+-- a column; the situation as bytes
+module _ (bytes : List ℕ) (m : Machine) {r : Machine} {k : ℕ} where
+  column-pushed :
+      {a : Answer} → k < length bytes → a ≡ fromNumber (getD bytes k 0 % 4) → Small bytes → Pushed m a r → Stepped (answersOf bytes) (Column k) m r
+  unfolding step
+  column-pushed l e q p =
+      let same : getD bytes k 0 % 4 ≡ getD bytes k 0 = omega (arith, q .small k l) in
+      record {
+        ready = p .ready;
+        filled = p .filled;
+        does = p .does ∙ sym (rw (length-map bytes fromNumber, lt-ltb k (length bytes) l, e, same, List·getD-map fromNumber bytes k 0));
+      }
+
+  pub column-put :
+      {a : Answer} →
+      k < length bytes →
+      a ≡ fromNumber (getD bytes k 0 % 4) →
+      Small bytes →
+      m .height < 16 →
+      Put (m .stack) (m .height) a r →
+      Stepped (answersOf bytes) (Column k) m r
+  column-put l e q h p = column-pushed l e q (pushed-on m h p)
+
+  pub column-full : k < length bytes → Small bytes → 16 ≤ m .height → Failed DEEP r → Stepped (answersOf bytes) (Column k) m r
+  column-full l q h f = column-pushed l refl q (pushed-full m h f)
+
+  pub column-absent : length bytes ≤ k → Failed COLUMN r → Stepped (answersOf bytes) (Column k) m r
+  unfolding step
+  column-absent l f =
+      record {
+        ready = f .ready;
+        filled = failed-filled COLUMN (omega arith) f;
+        does = failed-outcome COLUMN (omega arith) f ∙ sym (rw (length-map bytes fromNumber, le-ltb k (length bytes) l));
+      }
+
 -- a step, node by node; the situation as bytes
 module _ (bytes : List ℕ) {node : Node} (m : Machine) {r : Machine} where
   pub step-foreign : node ≡ Foreign → Failed NODE r → Stepped (answersOf bytes) node m r
@@ -57,31 +92,8 @@ module _ (bytes : List ℕ) {node : Node} (m : Machine) {r : Machine} where
   unfolding step
   step-constant n p = record { ready = p .ready; filled = p .filled; does = p .does ∙ sym (rw n) }
 
-  pub step-column :
-      {k : ℕ} {a : Answer} →
-      node ≡ Column k →
-      k < length bytes →
-      a ≡ fromNumber (getD bytes k 0 % 4) →
-      Small bytes →
-      Pushed m a r →
-      Stepped (answersOf bytes) node m r
-  unfolding step
-  step-column {k} n l e q p =
-      let same : getD bytes k 0 % 4 ≡ getD bytes k 0 = omega (arith, q .small k l) in
-      record {
-        ready = p .ready;
-        filled = p .filled;
-        does = p .does ∙ sym (rw (n, length-map bytes fromNumber, lt-ltb k (length bytes) l, e, same, List·getD-map fromNumber bytes k 0));
-      }
-
-  pub step-no-column : {k : ℕ} → node ≡ Column k → length bytes ≤ k → Failed COLUMN r → Stepped (answersOf bytes) node m r
-  unfolding step
-  step-no-column {k} n l f =
-      record {
-        ready = f .ready;
-        filled = failed-filled COLUMN (omega arith) f;
-        does = failed-outcome COLUMN (omega arith) f ∙ sym (rw (n, length-map bytes fromNumber, le-ltb k (length bytes) l));
-      }
+  pub step-column : {k : ℕ} → node ≡ Column k → Stepped (answersOf bytes) (Column k) m r → Stepped (answersOf bytes) node m r
+  step-column n d = rw n d
 
   module _ {p : Answer} (t : p ≡ fromNumber (m .stack % 4)) (l : 0 < m .height) where
     pub step-negate :

@@ -11,6 +11,7 @@ ghost use Prim.Native.Nat.{_%_, _≤_};
 ghost use lib.ListN.{length};
 ghost use Rattle.answers.specs.Meaning.{fromNumber};
 ghost use Rattle.situations.specs.Meaning.{answersOf};
+ghost use Rattle.nodes.specs.declared.Node.the-variants.{Column};
 ghost use Rattle.nodes.specs.Meaning.{nodeOf, run, finish, evaluateOf};
 ghost use Rattle.nodes.specs.Inside.{Ready, Free, Small, Put, Pushed, Failed, Stepped, Past, Turned, stackOf};
 use answers::Answer;
@@ -22,6 +23,9 @@ use refusals::END;
 use refusals::NODE;
 use refusals::Refusal;
 use refusals::UNDER;
+
+// How many answers the stack holds.
+const HEIGHT: usize = 16;
 
 // A node's byte, sorted.
 pub enum Node {
@@ -54,32 +58,33 @@ fn wide(x: u8) -> usize
     x as usize
 }
 
-// What a byte stands for. More than half of a compiled table is turns, then come columns, meets and joins.
+// What a byte stands for, in the order in which a run over a compiled table meets them: columns, then meets. It does the
+// turns behind a column at once and seldom meets one by itself.
 pub fn decode(b: u8) -> Node
     ensures { λ r. ⌜ r ≡ nodeOf b ⌝ }
 {
-    if b == 5 {
-        return Node::Turn;
-    }
     if 16 <= b {
         if b < 22 {
-            return Node::Column(wide(b - 16));
+            return Node::Column(wide(b) - 16);
         }
         return Node::Foreign;
     }
     if b == 6 {
         return Node::Meet;
     }
-    if b == 7 {
-        return Node::Join;
+    if 6 < b {
+        if b == 7 {
+            return Node::Join;
+        }
+        return Node::Foreign;
     }
     if b == 4 {
         return Node::Negate;
     }
-    if b < 4 {
-        return Node::Constant(answers::from_number(b));
+    if b == 5 {
+        return Node::Turn;
     }
-    Node::Foreign
+    Node::Constant(answers::from_number(b))
 }
 
 fn top(stack: u64) -> Answer
@@ -118,11 +123,27 @@ fn push(m: Machine, a: Answer) -> Machine
     ensures { λ r. ⌜ Pushed m a r ⌝ }
 {
     let height = m.height;
-    if height < 16 {
+    if height < HEIGHT {
         put(m.stack, height, a)
     } else {
         failed(DEEP)
     }
+}
+
+// A column's answer pushed. It is read once there is room for it: read before, it costs a test more.
+fn column(m: Machine, k: usize, situation: &[u8]) -> Machine
+    requires { ⌜ (Ready m) × (Small (now situation)) ⌝ }
+    ensures { λ r. ⌜ Stepped (answersOf (now (situation .entry))) (Column k) m r ⌝ }
+{
+    if situation.len() <= k {
+        return failed(COLUMN);
+    }
+    let height = m.height;
+    if HEIGHT <= height {
+        return failed(DEEP);
+    }
+    // an answer is below 4, and its remainder needs no test for that
+    put(m.stack, height, answers::from_number(situation[k] % 4))
 }
 
 // One node.
@@ -138,12 +159,7 @@ fn step(m: Machine, node: Node, situation: &[u8]) -> Machine
         } else {
             failed(UNDER)
         },
-        Node::Column(k) => if k < situation.len() {
-            // an answer is below 4, and its remainder needs no test for that
-            push(m, answers::from_number(situation[k] % 4))
-        } else {
-            failed(COLUMN)
-        },
+        Node::Column(k) => column(m, k, situation),
         Node::Meet => if 1 < h {
             put(s / 16, h - 2, operators::meet(top(s / 4), top(s)))
         } else {

@@ -1,5 +1,5 @@
 use Rattle.nodes.proofs.Digits.{free-one, free-two}
-use Rattle.nodes.proofs.Stepping.{step-turn, step-no-turn, step-column, step-no-column, step-meet, step-no-meet, step-join, step-no-join, step-negate, step-no-negate, step-constant, step-foreign}
+use Rattle.nodes.proofs.Stepping.{step-turn, step-no-turn, step-column, step-meet, step-no-meet, step-join, step-no-join, step-negate, step-no-negate, step-constant, step-foreign}
 use borrow.Author.Needs.{needs}
 use Rattle.nodes.proofs.step.Statement.{statement}
 use Rattle.nodes.proofs.step.Tie as tie
@@ -26,31 +26,28 @@ returns-3 : tie.Need-returns-3
 returns-3 c = search (needs, step-column)
 
 returns-4 : tie.Need-returns-4
-returns-4 c = search (needs, step-no-column)
+returns-4 c = search (needs, step-meet)
 
 returns-5 : tie.Need-returns-5
-returns-5 c = search (needs, step-meet)
+returns-5 c = search (needs, step-no-meet)
 
 returns-6 : tie.Need-returns-6
-returns-6 c = search (needs, step-no-meet)
+returns-6 c = search (needs, step-join)
 
 returns-7 : tie.Need-returns-7
-returns-7 c = search (needs, step-join)
+returns-7 c = search (needs, step-no-join)
 
 returns-8 : tie.Need-returns-8
-returns-8 c = search (needs, step-no-join)
+returns-8 c = search (needs, step-negate)
 
 returns-9 : tie.Need-returns-9
-returns-9 c = search (needs, step-negate)
+returns-9 c = search (needs, step-no-negate)
 
 returns-10 : tie.Need-returns-10
-returns-10 c = search (needs, step-no-negate)
+returns-10 c = search (needs, step-constant)
 
 returns-11 : tie.Need-returns-11
-returns-11 c = search (needs, step-constant)
-
-returns-12 : tie.Need-returns-12
-returns-12 c = search (needs, step-foreign)
+returns-11 c = search (needs, step-foreign)
 
 pub step-spec : {M : Type 1} → statement M
 step-spec =
@@ -63,9 +60,6 @@ step-spec =
     put-requires
     (λ c κs. search needs)
     (λ c. search needs)
-    (λ c. search needs)
-    (λ c κs. search needs)
-    (λ c κs. search needs)
     (λ c κs. search needs)
     (λ c. search needs)
     (λ c. search needs)
@@ -101,5 +95,4 @@ step-spec =
     returns-8
     returns-9
     returns-10
-    returns-11
-    returns-12)
+    returns-11)
