@@ -79,8 +79,8 @@ pub failed-made : (number : ℕ) → Failed number (record { stack = 0; height =
 failed-made number = record { ready = record { room = omega arith; below = omega arith }; told = refl; holds = view-none 0 }
 
 -- room for what comes instead of the upper one, and the upper two
-pub free-same : (m : Machine) → Ready m → m .height < 16 → Free (m .stack) (m .height)
-free-same m r l = free (m .stack) (m .height) l (r .below)
+pub free-same : (m : Machine) {limit : ℕ} → Ready m → m .height < limit → limit ≤ 16 → Free (m .stack) (m .height)
+free-same m r l k = free (m .stack) (m .height) (omega arith) (r .below)
 
 pub free-one : (m : Machine) → Ready m → 0 < m .height → Free (m .stack / 4) (m .height - 1)
 free-one m r l = free (m .stack / 4) (m .height - 1) (omega arith) (fits-less (m .stack) (m .height) l (r .below))

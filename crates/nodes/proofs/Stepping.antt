@@ -26,13 +26,13 @@ failed-outcome number {r} l f = rw (ne-eqb (r .fault) 0 (λ e. omega (arith, e, 
 failed-filled : (number : ℕ) {r : Machine} → 0 < number → Failed number r → r .fault ≡ 0 → 0 < r .height
 failed-filled number l f e = absurd (omega (arith, e, f .told))
 
--- a push
-pub pushed-on : (m : Machine) {a : Answer} {r : Machine} → m .height < 16 → Put (m .stack) (m .height) a r → Pushed m a r
-pushed-on m l p = record { ready = p .ready; filled = λ e. p .filled; does = put-outcome p ∙ sym (rw (length-stack m, lt-ltb (m .height) 16 l)) }
+-- a push; the limit is the code's, which has to be 16
+pub pushed-on : (m : Machine) {a : Answer} {r : Machine} {limit : ℕ} → m .height < limit → limit ≤ 16 → Put (m .stack) (m .height) a r → Pushed m a r
+pushed-on m l k p = record { ready = p .ready; filled = λ e. p .filled; does = put-outcome p ∙ sym (rw (length-stack m, lt-ltb (m .height) 16 (omega arith))) }
 
-pub pushed-full : (m : Machine) {a : Answer} {r : Machine} → 16 ≤ m .height → Failed DEEP r → Pushed m a r
-pushed-full m l f =
-    record { ready = f .ready; filled = failed-filled DEEP (omega arith) f; does = failed-outcome DEEP (omega arith) f ∙ sym (rw (length-stack m, le-ltb (m .height) 16 l)) }
+pub pushed-full : (m : Machine) {a : Answer} {r : Machine} {limit : ℕ} → limit ≤ m .height → 16 ≤ limit → Failed DEEP r → Pushed m a r
+pushed-full m l k f =
+    record { ready = f .ready; filled = failed-filled DEEP (omega arith) f; does = failed-outcome DEEP (omega arith) f ∙ sym (rw (length-stack m, le-ltb (m .height) 16 (omega arith))) }
 
 -- too few operands
 under-meet : (height : ℕ) (s stack : List Answer) → length stack ≤ 1 → step height s Meet stack ≡ stopped UNDER
@@ -61,17 +61,19 @@ module _ (bytes : List ℕ) (m : Machine) {r : Machine} {k : ℕ} where
       }
 
   pub column-put :
-      {a : Answer} →
+      {a : Answer} {limit : ℕ} →
       k < length bytes →
       a ≡ fromNumber (getD bytes k 0 % 4) →
       Small bytes →
-      m .height < 16 →
+      m .height < limit →
+      limit ≤ 16 →
       Put (m .stack) (m .height) a r →
       Stepped (answersOf bytes) (Column k) m r
-  column-put l e q h p = column-pushed l e q (pushed-on m h p)
+  column-put l e q h i p = column-pushed l e q (pushed-on m h i p)
 
-  pub column-full : k < length bytes → Small bytes → 16 ≤ m .height → Failed DEEP r → Stepped (answersOf bytes) (Column k) m r
-  column-full l q h f = column-pushed l refl q (pushed-full m h f)
+  pub column-full :
+      {limit : ℕ} → k < length bytes → Small bytes → limit ≤ m .height → 16 ≤ limit → Failed DEEP r → Stepped (answersOf bytes) (Column k) m r
+  column-full l q h i f = column-pushed l refl q (pushed-full m h i f)
 
   pub column-absent : length bytes ≤ k → Failed COLUMN r → Stepped (answersOf bytes) (Column k) m r
   unfolding step

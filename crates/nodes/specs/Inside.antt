@@ -1,5 +1,5 @@
 -- What the private functions and their loop say among themselves. Nothing here has to be believed: the laws tie it to the meaning.
-use Prim.Native.Nat.{ℕ, zero, suc, _-_, _/_, _%_, _^_, _≤_, _<_}
+use Prim.Native.Nat.{ℕ, zero, suc, _+_, _/_, _%_, _^_, _≤_, _<_}
 use mathlib.Core.Path.{_≡_}
 use mathlib.Core.Bool.{cond}
 use mathlib.Core.List.{List, [], _∷_}
@@ -10,7 +10,7 @@ use Rattle.answers.specs.declared.Answer.{Answer}
 use Rattle.nodes.specs.declared.Ahead.{Ahead}
 use Rattle.nodes.specs.declared.Machine.{Machine}
 use Rattle.nodes.specs.declared.Node.{Node}
-use Rattle.nodes.specs.Meaning.{After, onward, stopped, push, step, run}
+use Rattle.nodes.specs.Meaning.{After, onward, stopped, push, step, run, turns}
 
 -- the lowest digits of a number in base 4, as answers, the lowest first
 unfoldable pub view : ℕ → ℕ → List Answer
@@ -64,17 +64,13 @@ pub record Stepped (s : List Answer) (node : Node) (m r : Machine) : Type 0 wher
 -- an answer turned so many times
 unfoldable pub turnedBy : ℕ → Answer → Answer
 turnedBy zero p = p
-turnedBy (suc n) p = turn (turnedBy n p)
+turnedBy (suc n) p = turnedBy n (turn p)
 
--- only turns stand from one place to another: a run goes on there, with its top turned
-pub record Past (nodes : List ℕ) (start i : ℕ) : Type 0 where
-  pub ahead : start ≤ i
-  pub inside : i ≤ length nodes
-  pub same :
-      (s : List Answer) (p : Answer) (stack : List Answer) →
-      run 16 s start (p ∷ stack) (drop start nodes) ≡ run 16 s i (turnedBy (i - start) p ∷ stack) (drop i nodes)
+-- only turns stand from one place to another
+pub record Passed (nodes : List ℕ) (start i : ℕ) : Type 0 where
+  pub same : start + turns (drop start nodes) ≡ i + turns (drop i nodes)
 
--- the same of a stack that is a number
+-- turns that are done at once: a run goes on behind them, with its top turned
 pub record Turned (nodes : List ℕ) (start stack : ℕ) (r : Ahead) : Type 0 where
   pub ahead : start ≤ r .next
   pub inside : r .next ≤ length nodes

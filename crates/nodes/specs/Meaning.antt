@@ -68,3 +68,8 @@ run height s place stack (b ∷ nodes) = next (step height s (nodeOf b) stack) p
 -- "Any array is taken, not only compiled ones. First the situation .. Then nodes left to right with a stack of 16."
 unfoldable pub evaluateOf : List ℕ → List ℕ → Reply
 evaluateOf nodes s = after (fault s) (λ r. record { refusal = r; answer = Silent }) (run 16 (answersOf s) 0 [] nodes)
+
+-- How many turns an array begins with: the law run-turns says that a run may do them at once.
+unfoldable pub turns : List ℕ → ℕ
+turns [] = 0
+turns (b ∷ nodes) = cond (eqb b 5) (suc (turns nodes)) 0

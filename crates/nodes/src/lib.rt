@@ -7,13 +7,13 @@
 // array's length).
 ghost use mathlib.Core.Path.{_≡_};
 ghost use mathlib.Core.List.{[]};
-ghost use Prim.Native.Nat.{_%_, _≤_};
-ghost use lib.ListN.{length};
+ghost use Prim.Native.Nat.{_+_, _%_, _≤_};
+ghost use lib.ListN.{length, drop};
 ghost use Rattle.answers.specs.Meaning.{fromNumber};
 ghost use Rattle.situations.specs.Meaning.{answersOf};
 ghost use Rattle.nodes.specs.declared.Node.the-variants.{Column};
-ghost use Rattle.nodes.specs.Meaning.{nodeOf, run, finish, evaluateOf};
-ghost use Rattle.nodes.specs.Inside.{Ready, Free, Small, Put, Pushed, Failed, Stepped, Past, Turned, stackOf};
+ghost use Rattle.nodes.specs.Meaning.{nodeOf, turns, run, finish, evaluateOf};
+ghost use Rattle.nodes.specs.Inside.{Ready, Free, Small, Put, Pushed, Failed, Stepped, Turned, stackOf};
 use answers::Answer;
 use answers::Reply;
 use answers::operators;
@@ -135,15 +135,17 @@ fn column(m: Machine, k: usize, situation: &[u8]) -> Machine
     requires { ⌜ (Ready m) × (Small (now situation)) ⌝ }
     ensures { λ r. ⌜ Stepped (answersOf (now (situation .entry))) (Column k) m r ⌝ }
 {
-    if situation.len() <= k {
-        return failed(COLUMN);
-    }
     let height = m.height;
-    if HEIGHT <= height {
-        return failed(DEEP);
+    if k < situation.len() {
+        if height < HEIGHT {
+            // an answer is below 4, and its remainder needs no test for that
+            put(m.stack, height, answers::from_number(situation[k] % 4))
+        } else {
+            failed(DEEP)
+        }
+    } else {
+        failed(COLUMN)
     }
-    // an answer is below 4, and its remainder needs no test for that
-    put(m.stack, height, answers::from_number(situation[k] % 4))
 }
 
 // One node.
@@ -181,9 +183,8 @@ fn step(m: Machine, node: Node, situation: &[u8]) -> Machine
 }
 
 // The first place, from one on, where no turn stands.
-fn past_turns(nodes: &[u8], from: usize) -> usize
-    requires { ⌜ from ≤ length (now nodes) ⌝ }
-    ensures { λ r. ⌜ Past (now (nodes .entry)) from r ⌝ }
+pub fn past_turns(nodes: &[u8], from: usize) -> usize
+    ensures { λ r. ⌜ r ≡ from + turns (drop from (now (nodes .entry))) ⌝ }
 {
     let mut at = from;
     while at < nodes.len() {
@@ -203,7 +204,7 @@ fn turn_on(stack: u64, node: Node, nodes: &[u8], from: usize) -> Ahead
     match node {
         Node::Column(_) => {
             let next = past_turns(nodes, from);
-            let turns = (next - from) as u64;
+            let turns = ((next - from) % 4) as u64;
             let sum = stack % 4 + turns;
             let rest = stack / 4 * 4;
             Ahead {

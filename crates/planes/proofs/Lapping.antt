@@ -14,10 +14,11 @@ use Rattle.answers.specs.declared.Answer.{Answer}
 use Rattle.situations.specs.Meaning.{situationAt}
 use Rattle.nodes.specs.declared.Node.{Node}
 use Rattle.nodes.specs.Meaning.{nodeOf, finish, next, run}
+use Rattle.planes.specs.declared.Ahead.{Ahead}
 use Rattle.planes.specs.declared.Planes.{Planes}
 use Rattle.planes.specs.declared.Move.{Move}
 use Rattle.planes.specs.declared.Word.{Word}
-use Rattle.planes.specs.Inside.{lane, Tops, settle, Acted, view, Running, RefusedWord, Ran}
+use Rattle.planes.specs.Inside.{lane, Tops, settle, Acted, Turned, view, Running, RefusedWord, Ran}
 
 abbrev zeros : Planes
 zeros = record { bury = 0; keep = 0 }
@@ -86,17 +87,18 @@ module _ (nodes : List ℕ) (word n : ℕ) where
     unfolding run
     here x k = rw (a .does x k (view x cells h) (tops-view x cells h), b) (rw (drop-cons nodes i 0 l) at (w .rest x k))
 
-    pub running-more : r .fault ≡ 0 → Running nodes word n (set cells (r .height + 1) (r .planes)) (r .height) (i + 1)
-    running-more e =
+    pub running-more :
+        r .fault ≡ 0 → {t : Ahead} → Turned nodes (i + 1) (r .planes) t → Running nodes word n (set cells (r .height + 1) (t .planes)) (r .height) (t .next)
+    running-more e {t} q =
         let room = a .room in
         let size = w .size in
         record {
-          inside = omega arith;
+          inside = q .inside;
           room = a .room;
-          size = length-set cells (r .height + 1) (r .planes) ∙ w .size;
+          size = length-set cells (r .height + 1) (t .planes) ∙ w .size;
           rest = λ x k.
-              rw (add-one, view-put x cells (r .planes) h (r .height) (a .filled) (a .upto) (omega (arith, room, size)))
-              (rw (eq-eqb (r .fault) 0 e) at (here x k));
+              rw (view-put x cells (t .planes) h (r .height) (a .filled) (a .upto) (omega (arith, room, size)))
+              (sym (q .same x k (situationAt n (word * 64 + x)) (drop (suc h - r .height) (view x cells h))) ∙ (rw add-one (rw (eq-eqb (r .fault) 0 e) at (here x k))));
         }
 
     pub running-stopped : (r .fault ≡ 0 → ⊥) → {q : Word} → RefusedWord (r .fault) i q → Ran nodes word n q

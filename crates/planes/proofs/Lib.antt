@@ -1,6 +1,7 @@
 pub mod Bitwise
 pub mod Columns
 pub mod Acting
+pub mod Turning
 pub mod Lapping
 pub mod Filling
 pub mod Blocks

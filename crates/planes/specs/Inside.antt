@@ -14,6 +14,7 @@ use Rattle.answers.specs.declared.Reply.{Reply}
 use Rattle.situations.specs.Meaning.{situationAt}
 use Rattle.nodes.specs.declared.Node.{Node}
 use Rattle.nodes.specs.Meaning.{After, onward, stopped, push, step, run}
+use Rattle.planes.specs.declared.Ahead.{Ahead}
 use Rattle.planes.specs.declared.Planes.{Planes}
 use Rattle.planes.specs.declared.Move.{Move}
 use Rattle.planes.specs.declared.Word.{Word}
@@ -77,6 +78,16 @@ pub record Acted (node : Node) (h : ℕ) (top second : Planes) (word n : ℕ) (r
       (stack : List Answer) →
       Tops x h top second stack →
       settle (r .fault) (lane x (r .planes) ∷ drop (suc h - r .height) stack) ≡ step 16 (situationAt n (word * 64 + x)) node stack
+
+-- turns that are done at once: in each lane a run goes on behind them, with its top turned
+pub record Turned (nodes : List ℕ) (start : ℕ) (planes : Planes) (r : Ahead) : Type 0 where
+  pub ahead : start ≤ r .next
+  pub inside : r .next ≤ length nodes
+  pub same :
+      (x : ℕ) →
+      x < 64 →
+      (s stack : List Answer) →
+      run 16 s start (lane x planes ∷ stack) (drop start nodes) ≡ run 16 s (r .next) (lane x (r .planes) ∷ stack) (drop (r .next) nodes)
 
 -- a lane's stack, its top first: two places below it are never part of it
 unfoldable pub view : ℕ → List Planes → ℕ → List Answer

@@ -10,8 +10,9 @@ ghost use Prim.Native.Nat.{_+_, _^_, _≤_, _<_};
 ghost use lib.ListN.{length, replicate};
 ghost use Rattle.refusals.specs.Meaning.{refused, SITUATION};
 ghost use Rattle.answers.specs.Meaning.{negate, turn, meet, join};
+ghost use Rattle.nodes.specs.Inside.{turnedBy};
 ghost use Rattle.planes.specs.Meaning.{weightOf, blockOf};
-ghost use Rattle.planes.specs.Inside.{Whole, One, Two, Digit, Failed, Moved, Pushed, Acted, RefusedWord, Ran, Unpacked, Lanes, Filled, Answered};
+ghost use Rattle.planes.specs.Inside.{Whole, One, Two, Digit, Failed, Moved, Pushed, Acted, Turned, RefusedWord, Ran, Unpacked, Lanes, Filled, Answered};
 use answers::Answer;
 use nodes::Node;
 use refusals::COLUMN;
@@ -39,6 +40,12 @@ struct Move {
     planes: Planes,
     height: usize,
     fault: u8,
+}
+
+// Where a run goes on after turns that were done at once.
+struct Ahead {
+    planes: Planes,
+    next: usize,
 }
 
 // What the nodes come to in 64 lanes.
@@ -79,6 +86,18 @@ fn turn(p: Planes) -> Planes
     Planes {
         bury: p.bury ^ ALL,
         keep: p.keep ^ p.bury,
+    }
+}
+
+// So many turns: four of them are none.
+fn turned(p: Planes, turns: usize) -> Planes
+    ensures { λ r. ⌜ One (turnedBy turns) p r ⌝ }
+{
+    match turns % 4 {
+        0 => p,
+        1 => turn(p),
+        2 => turn(turn(p)),
+        _ => turn(turn(turn(p))),
     }
 }
 
@@ -205,6 +224,23 @@ fn act(node: Node, height: usize, top: Planes, second: Planes, word: u64, n: usi
     }
 }
 
+// In a compiled table turns follow columns: they are counted, and done at once.
+fn turn_on(planes: Planes, node: Node, nodes: &[u8], from: usize) -> Ahead
+    requires { ⌜ from ≤ length (now nodes) ⌝ }
+    ensures { λ r. ⌜ Turned (now (nodes .entry)) from planes r ⌝ }
+{
+    match node {
+        Node::Column(_) => {
+            let next = nodes::past_turns(nodes, from);
+            Ahead {
+                planes: turned(planes, next - from),
+                next,
+            }
+        }
+        _ => Ahead { planes, next: from },
+    }
+}
+
 // The nodes from left to right, in the 64 lanes of a word.
 fn run(nodes: &[u8], word: u64, n: usize) -> Word
     requires { ⌜ n ≤ 6 ⌝ }
@@ -216,23 +252,18 @@ fn run(nodes: &[u8], word: u64, n: usize) -> Word
     let mut i = 0;
     while i < nodes.len() {
         let top = height + 1;
-        let m = act(
-            nodes::decode(nodes[i]),
-            height,
-            stack[top],
-            stack[height],
-            word,
-            n,
-        );
+        let node = nodes::decode(nodes[i]);
+        let m = act(node, height, stack[top], stack[height], word, n);
         let fault = m.fault;
         if fault != 0 {
             return refused(fault, i);
         }
         height = m.height;
         let place = height + 1;
-        let planes = m.planes;
+        let ahead = turn_on(m.planes, node, nodes, i + 1);
+        let planes = ahead.planes;
         stack[place] = planes;
-        i += 1;
+        i = ahead.next;
     }
     if height != 1 {
         return refused(END, i);

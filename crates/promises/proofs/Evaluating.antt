@@ -8,10 +8,14 @@ use Rattle.situations.specs.Meaning.{fault}
 use Rattle.nodes.specs.Meaning.{evaluateOf}
 use Rattle.nodes.proofs.Alike.{evaluate-alike}
 use Rattle.nodes.proofs.decode as decode
+use Rattle.nodes.proofs.past_turns as past-turns
 use Rattle.nodes.proofs.evaluate as evaluate
 
 pub decode-determined : Determined decode.Kinds.ps decode.Kinds.r decode.Reads.Post
 decode-determined = record { result = λ κs a x y s t p q. p ∙ sym q }
+
+pub past-turns-determined : Determined past-turns.Kinds.ps past-turns.Kinds.r past-turns.Reads.Post
+past-turns-determined = record { result = λ κs a x y s t p q. p ∙ sym q }
 
 pub evaluate-determined : Determined evaluate.Kinds.ps evaluate.Kinds.r evaluate.Reads.Post
 evaluate-determined = record { result = λ κs a x y s t p q. p ∙ sym q }
