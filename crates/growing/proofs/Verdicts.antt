@@ -83,6 +83,17 @@ module _ (nodes : List ℕ) (n : ℕ) where
         go false e = rw e
 
     -- "Yes exactly when the law holds."
+    -- every verdict but a yes is a no
+    pub other-no : (growthOf nodes n .verdict ≡ 1 → ⊥) → growthOf nodes n .verdict ≡ 2
+    other-no v = ap (λ (r : Growth). r .verdict) (verdict-fine h) ∙ go (ltb (firstSituation (answerAt nodes) n) (4 ^ n)) refl
+      where
+        go :
+            (t : Bool) →
+            ltb (firstSituation (answerAt nodes) n) (4 ^ n) ≡ t →
+            cond (ltb (firstSituation (answerAt nodes) n) (4 ^ n)) (shown (answerAt nodes) (situationAt n (firstSituation (answerAt nodes) n))) (without none 1) .verdict ≡ 2
+        go true e = rw e
+        go false e = absurd (v (ap (λ (r : Growth). r .verdict) (verdict-fine h) ∙ (rw e)))
+
     pub yes-exactly : (growthOf nodes n .verdict ≡ 1) ↔ Grows (answerAt nodes) n
     yes-exactly = (yes-grows, grows-yes)
 

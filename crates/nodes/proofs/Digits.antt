@@ -89,9 +89,6 @@ pub free-two : (m : Machine) → Ready m → 1 < m .height → Free (m .stack / 
 free-two m r l = free (m .stack / 16) (m .height - 2) (omega arith) (fits-less-two (m .stack) (m .height) l (r .below))
 
 -- the stack opened at its top
-pub stack-empty : (m : Machine) → m .height ≤ 0 → stackOf m ≡ []
-stack-empty m h = let e : m .height ≡ 0 = omega arith in rw e (view-none (m .stack))
-
 pub stack-single : (m : Machine) → m .height ≡ 1 → stackOf m ≡ fromNumber (m .stack % 4) ∷ []
 stack-single m e = rw e (view-one (m .stack))
 

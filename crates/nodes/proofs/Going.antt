@@ -22,7 +22,7 @@ use Rattle.nodes.specs.Inside.{view, stackOf, outcome, Stepped, Turned, 
 use Rattle.nodes.proofs.Digits.{stack-single, length-stack}
 
 -- the end
-finish-other : (place : ℕ) (stack : List Answer) → (length stack ≡ 1 → ⊥) → refuse END place ≡ finish place stack
+pub finish-other : (place : ℕ) (stack : List Answer) → (length stack ≡ 1 → ⊥) → refuse END place ≡ finish place stack
 finish-other place [] h = refl
 finish-other place (p ∷ []) h = absurd (h refl)
 finish-other place (q ∷ p ∷ stack) h = refl

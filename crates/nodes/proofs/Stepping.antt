@@ -14,7 +14,7 @@ use Rattle.nodes.specs.declared.Node.{Node}
 use Rattle.nodes.specs.declared.Node.the-variants.{Constant, Negate, Turn, Meet, Join, Column, Foreign}
 use Rattle.nodes.specs.Meaning.{onward, stopped, step}
 use Rattle.nodes.specs.Inside.{view, stackOf, outcome, Small, Put, Failed, Pushed, Stepped}
-use Rattle.nodes.proofs.Digits.{stack-empty, stack-top, stack-two, length-stack}
+use Rattle.nodes.proofs.Digits.{stack-top, stack-two, length-stack}
 
 -- what a machine says
 put-outcome : {s h : ℕ} {a : Answer} {r : Machine} → Put s h a r → outcome r ≡ onward (a ∷ view h s)
@@ -35,17 +35,28 @@ pushed-full m l k f =
     record { ready = f .ready; filled = failed-filled DEEP (omega arith) f; does = failed-outcome DEEP (omega arith) f ∙ sym (rw (length-stack m, le-ltb (m .height) 16 (omega arith))) }
 
 -- too few operands
-under-meet : (height : ℕ) (s stack : List Answer) → length stack ≤ 1 → step height s Meet stack ≡ stopped UNDER
-unfolding step
-under-meet height s [] h = refl
-under-meet height s (q ∷ []) h = refl
-under-meet height s (q ∷ p ∷ stack) h = absurd (omega arith)
+module _ (height : ℕ) (s : List Answer) where
+  pub under-negate : (stack : List Answer) → length stack ≤ 0 → step height s Negate stack ≡ stopped UNDER
+  unfolding step
+  under-negate [] h = refl
+  under-negate (p ∷ stack) h = absurd (omega arith)
 
-under-join : (height : ℕ) (s stack : List Answer) → length stack ≤ 1 → step height s Join stack ≡ stopped UNDER
-unfolding step
-under-join height s [] h = refl
-under-join height s (q ∷ []) h = refl
-under-join height s (q ∷ p ∷ stack) h = absurd (omega arith)
+  pub under-turn : (stack : List Answer) → length stack ≤ 0 → step height s Turn stack ≡ stopped UNDER
+  unfolding step
+  under-turn [] h = refl
+  under-turn (p ∷ stack) h = absurd (omega arith)
+
+  pub under-meet : (stack : List Answer) → length stack ≤ 1 → step height s Meet stack ≡ stopped UNDER
+  unfolding step
+  under-meet [] h = refl
+  under-meet (q ∷ []) h = refl
+  under-meet (q ∷ p ∷ stack) h = absurd (omega arith)
+
+  pub under-join : (stack : List Answer) → length stack ≤ 1 → step height s Join stack ≡ stopped UNDER
+  unfolding step
+  under-join [] h = refl
+  under-join (q ∷ []) h = refl
+  under-join (q ∷ p ∷ stack) h = absurd (omega arith)
 
 -- a column; the situation as bytes
 module _ (bytes : List ℕ) (m : Machine) {r : Machine} {k : ℕ} where
@@ -120,26 +131,17 @@ module _ (bytes : List ℕ) {node : Node} (m : Machine) {r : Machine} where
     step-join n e w = record { ready = w .ready; filled = λ e. w .filled; does = put-outcome w ∙ sym (rw (n, stack-two m l, e, t, u)) }
 
   module _ (f : Failed UNDER r) where
+    under : step 16 (answersOf bytes) node (stackOf m) ≡ stopped UNDER → Stepped (answersOf bytes) node m r
+    under e = record { ready = f .ready; filled = failed-filled UNDER (omega arith) f; does = failed-outcome UNDER (omega arith) f ∙ sym e }
+
     pub step-no-negate : node ≡ Negate → m .height ≤ 0 → Stepped (answersOf bytes) node m r
-    unfolding step
-    step-no-negate n l = record { ready = f .ready; filled = failed-filled UNDER (omega arith) f; does = failed-outcome UNDER (omega arith) f ∙ sym (rw (n, stack-empty m l)) }
+    step-no-negate n l = under (rw n (under-negate 16 (answersOf bytes) (stackOf m) (omega (arith, length-stack m))))
 
     pub step-no-turn : node ≡ Turn → m .height ≤ 0 → Stepped (answersOf bytes) node m r
-    unfolding step
-    step-no-turn n l = record { ready = f .ready; filled = failed-filled UNDER (omega arith) f; does = failed-outcome UNDER (omega arith) f ∙ sym (rw (n, stack-empty m l)) }
+    step-no-turn n l = under (rw n (under-turn 16 (answersOf bytes) (stackOf m) (omega (arith, length-stack m))))
 
     pub step-no-meet : node ≡ Meet → m .height ≤ 1 → Stepped (answersOf bytes) node m r
-    step-no-meet n l =
-        record {
-          ready = f .ready;
-          filled = failed-filled UNDER (omega arith) f;
-          does = failed-outcome UNDER (omega arith) f ∙ sym (rw n (under-meet 16 (answersOf bytes) (stackOf m) (omega (arith, length-stack m))));
-        }
+    step-no-meet n l = under (rw n (under-meet 16 (answersOf bytes) (stackOf m) (omega (arith, length-stack m))))
 
     pub step-no-join : node ≡ Join → m .height ≤ 1 → Stepped (answersOf bytes) node m r
-    step-no-join n l =
-        record {
-          ready = f .ready;
-          filled = failed-filled UNDER (omega arith) f;
-          does = failed-outcome UNDER (omega arith) f ∙ sym (rw n (under-join 16 (answersOf bytes) (stackOf m) (omega (arith, length-stack m))));
-        }
+    step-no-join n l = under (rw n (under-join 16 (answersOf bytes) (stackOf m) (omega (arith, length-stack m))))

@@ -1,6 +1,6 @@
 -- The ways out of one node in all lanes.
 use Prim.Native.Nat.{ℕ, suc, _+_, _-_, _*_, _/_, _%_, _^_, _≤_, _<_}
-use mathlib.Core.Path.{_≡_, refl, ap, sym}
+use mathlib.Core.Path.{_≡_, ap, sym}
 use mathlib.Core.List.{List, [], _∷_}
 use lib.ListN.{length, drop}
 use borrow.Author.Tests.{lt-ltb, le-ltb, eq-eqb, ne-eqb}
@@ -13,6 +13,7 @@ use Rattle.situations.proofs.Base4.{situationAt-length}
 use Rattle.nodes.specs.declared.Node.{Node}
 use Rattle.nodes.specs.declared.Node.the-variants.{Constant, Negate, Turn, Meet, Join, Column, Foreign}
 use Rattle.nodes.specs.Meaning.{stopped, step}
+use Rattle.nodes.proofs.Stepping.{under-negate, under-turn, under-meet, under-join}
 use Rattle.planes.specs.declared.Planes.{Planes}
 use Rattle.planes.specs.declared.Move.{Move}
 use Rattle.planes.specs.Inside.{lane, Whole, One, Two, Digit, Tops, Failed, Moved, Pushed, Acted}
@@ -51,29 +52,6 @@ open-two x h top second [] l t = absurd (omega (arith, t .tall))
 open-two x h top second (q ∷ []) l t = absurd (omega (arith, t .tall))
 open-two x h top second (q ∷ p ∷ stack) l t = rw (← t .first (omega arith), ← t .next l)
 
--- too few operands
-under-one : (node : Node) (s stack : List Answer) → length stack ≤ 0 → step 16 s Negate stack ≡ stopped UNDER
-unfolding step
-under-one node s [] h = refl
-under-one node s (p ∷ stack) h = absurd (omega arith)
-
-under-turn : (s stack : List Answer) → length stack ≤ 0 → step 16 s Turn stack ≡ stopped UNDER
-unfolding step
-under-turn s [] h = refl
-under-turn s (p ∷ stack) h = absurd (omega arith)
-
-under-meet : (s stack : List Answer) → length stack ≤ 1 → step 16 s Meet stack ≡ stopped UNDER
-unfolding step
-under-meet s [] h = refl
-under-meet s (q ∷ []) h = refl
-under-meet s (q ∷ p ∷ stack) h = absurd (omega arith)
-
-under-join : (s stack : List Answer) → length stack ≤ 1 → step 16 s Join stack ≡ stopped UNDER
-unfolding step
-under-join s [] h = refl
-under-join s (q ∷ []) h = refl
-under-join s (q ∷ p ∷ stack) h = absurd (omega arith)
-
 module _ {node : Node} (h : ℕ) (top second : Planes) (word n : ℕ) {r : Move} where
   -- a refusal, in each lane
   fails :
@@ -101,16 +79,16 @@ module _ {node : Node} (h : ℕ) (top second : Planes) (word n : ℕ) {r : Move}
       fails COLUMN (omega arith) f (λ x stack t. rw (e, situationAt-length n (word * 64 + x), le-ltb k n l))
 
   pub act-no-turn : node ≡ Turn → h ≤ 0 → Failed UNDER r → Acted node h top second word n r
-  act-no-turn e l f = fails UNDER (omega arith) f (λ x stack t. rw e (under-turn (situationAt n (word * 64 + x)) stack (omega (arith, t))))
+  act-no-turn e l f = fails UNDER (omega arith) f (λ x stack t. rw e (under-turn 16 (situationAt n (word * 64 + x)) stack (omega (arith, t))))
 
   pub act-no-negate : node ≡ Negate → h ≤ 0 → Failed UNDER r → Acted node h top second word n r
-  act-no-negate e l f = fails UNDER (omega arith) f (λ x stack t. rw e (under-one node (situationAt n (word * 64 + x)) stack (omega (arith, t))))
+  act-no-negate e l f = fails UNDER (omega arith) f (λ x stack t. rw e (under-negate 16 (situationAt n (word * 64 + x)) stack (omega (arith, t))))
 
   pub act-no-meet : node ≡ Meet → h ≤ 1 → Failed UNDER r → Acted node h top second word n r
-  act-no-meet e l f = fails UNDER (omega arith) f (λ x stack t. rw e (under-meet (situationAt n (word * 64 + x)) stack (omega (arith, t))))
+  act-no-meet e l f = fails UNDER (omega arith) f (λ x stack t. rw e (under-meet 16 (situationAt n (word * 64 + x)) stack (omega (arith, t))))
 
   pub act-no-join : node ≡ Join → h ≤ 1 → Failed UNDER r → Acted node h top second word n r
-  act-no-join e l f = fails UNDER (omega arith) f (λ x stack t. rw e (under-join (situationAt n (word * 64 + x)) stack (omega (arith, t))))
+  act-no-join e l f = fails UNDER (omega arith) f (λ x stack t. rw e (under-join 16 (situationAt n (word * 64 + x)) stack (omega (arith, t))))
 
   -- pushes
   pub act-constant : {a : Answer} {p : Planes} → node ≡ Constant a → Whole a p → Pushed p h r → Acted node h top second word n r

@@ -9,11 +9,10 @@ use native.Mathlib.Nat.{zero-add, suc-add}
 use native.Mathlib.Numerals.{add-one}
 use native.Mathlib.Omega.{arith}
 use Rattle.refusals.specs.Meaning.{none, END}
-use Rattle.answers.specs.Meaning.{refuse}
-use Rattle.answers.specs.declared.Answer.{Answer}
 use Rattle.situations.specs.Meaning.{situationAt}
 use Rattle.nodes.specs.declared.Node.{Node}
 use Rattle.nodes.specs.Meaning.{nodeOf, finish, next, run}
+use Rattle.nodes.proofs.Going.{finish-other}
 use Rattle.planes.specs.declared.Ahead.{Ahead}
 use Rattle.planes.specs.declared.Planes.{Planes}
 use Rattle.planes.specs.declared.Move.{Move}
@@ -63,11 +62,6 @@ view-put x cells p h (suc k) a b c =
     let f : h - k + k ≡ h = omega arith in
     rw (e, getD-set-same cells (suc k + 1) p zeros c, view-above x cells (suc k + 1) p k (omega arith), d)
     (ap (λ l. lane x p ∷ l) (sym (rw f at (drop-view x cells (h - k) k))))
-
-finish-other : (place : ℕ) (stack : List Answer) → (length stack ≡ 1 → ⊥) → refuse END place ≡ finish place stack
-finish-other place [] h = refl
-finish-other place (p ∷ []) h = absurd (h refl)
-finish-other place (q ∷ p ∷ stack) h = refl
 
 -- the loop
 module _ (nodes : List ℕ) (word n : ℕ) where

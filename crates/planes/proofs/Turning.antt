@@ -1,12 +1,12 @@
 -- Turns that stand behind a column are done at once, in all lanes.
 use Prim.Native.Nat.{ℕ, _+_, _-_, _%_, _≤_}
 use mathlib.Core.Path.{_≡_, refl, ap, sym, _∙_}
-use mathlib.Core.List.{List, _∷_}
+use mathlib.Core.List.{List}
 use lib.ListN.{length, drop}
 use native.Mathlib.Omega.{arith}
 use Rattle.answers.specs.Meaning.{turn}
 use Rattle.answers.specs.declared.Answer.{Answer}
-use Rattle.nodes.specs.Meaning.{run, turns}
+use Rattle.nodes.specs.Meaning.{turns}
 use Rattle.nodes.specs.Inside.{turnedBy}
 use Rattle.nodes.proofs.Turning.{turnedBy-rest, turns-ahead, turns-inside, turns-same}
 use Rattle.planes.specs.declared.Planes.{Planes}

@@ -5,13 +5,13 @@ use mathlib.Core.Path.{_≡_, refl, ap, sym, _∙_}
 use mathlib.Core.Logic.{_↔_, _⊎_}
 use mathlib.Core.List.{List, []}
 use lib.Dec.{T}
-use lib.ListN.{length, getD, replicate, length-replicate}
+use lib.ListN.{length, getD, set, replicate, length-set, length-replicate}
 use native.Mathlib.Omega.{arith}
-use Rattle.answers.specs.Meaning.{contained, firstAbove}
+use Rattle.answers.specs.Meaning.{fromNumber, contained, firstAbove}
 use Rattle.answers.specs.declared.Answer.{Answer}
 use Rattle.answers.specs.declared.Answer.the-variants.{Bury, Keep, Clash}
 use Rattle.answers.specs.declared.Reply.{Reply}
-use Rattle.situations.specs.Meaning.{fault, merge}
+use Rattle.situations.specs.Meaning.{columns, fault, merge}
 use Rattle.situations.proofs.Merging.{merge-length}
 use Rattle.tables.specs.Meaning.{says, tableOf}
 use Rattle.tables.proofs.Writing.{read-formed, read-consistent}
@@ -19,9 +19,10 @@ use Rattle.nodes.specs.Meaning.{evaluateOf}
 use Rattle.compiler.proofs.Replies.{accepted-read}
 use Rattle.selection.proofs.Trees.{tree-run, tree-answers}
 use Rattle.growth.specs.Meaning.{answerAt, growthOf}
-use Rattle.growing.specs.Meaning.{Grows, Long, merged}
+use Rattle.growing.specs.Meaning.{Grows, FirstFailing, Long, merged}
+use Rattle.growing.proofs.Verdicts.{other-no}
 use Rattle.growing.proofs.Histories as histories
-use Rattle.promises.proofs.Growing.{yes-exactly-when-it-grows}
+use Rattle.promises.proofs.Growing.{yes-exactly-when-it-grows, no-shows-the-first}
 use Rattle.promises.proofs.Compiling.{accepted-writes-nodes}
 use Rattle.promises.specs.Meaning.{Compiles, nodesWritten}
 
@@ -31,6 +32,26 @@ grows-same f g n e h =
     record {
       first = λ s t l k. rw (← e s l, ← e (merge s t) (merge-length s t ∙ l)) (h .first s t l k);
       second = λ s t l k. rw (← e t k, ← e (merge s t) (merge-length s t ∙ l)) (h .second s t l k);
+    }
+
+-- and fail first at the same step
+first-same :
+    (f g : List Answer → Answer) (n : ℕ) {s : List Answer} {column : ℕ} {a : Answer} →
+    ((s : List Answer) → length s ≡ n → f s ≡ g s) →
+    FirstFailing f n s column a →
+    FirstFailing g n s column a
+first-same f g n {s} {column} {a} e h =
+    record {
+      long = h .long;
+      fails = record {
+        step = h .fails .step;
+        lost = λ c. h .fails .lost (rw (e s (h .long), e (set s column a) (length-set s column a ∙ h .long)) c);
+      };
+      first = λ t other b l before fails. h .first t other b l before
+          (record {
+            step = fails .step;
+            lost = λ c. fails .lost (rw (← e t l, ← e (set t other b) (length-set t other b ∙ l)) c);
+          });
     }
 
 -- silent everywhere is a situation
@@ -75,6 +96,20 @@ module _ (bytes lent : List ℕ) (accepted : Compiles bytes lent) where
         λ v. grows-same (answerAt (nodesWritten bytes lent)) (says (tableOf bytes .rows)) (tableOf bytes .columns) nodes-say (e .0 v),
         λ g. e .1 (grows-same (says (tableOf bytes .rows)) (answerAt (nodesWritten bytes lent)) (tableOf bytes .columns) (λ s l. sym (nodes-say s l)) g),
       )
+
+  -- Every other verdict is a no, and shows the first step at which the table says less than before.
+  pub no-shows-the-tables-first :
+      (growthOf (nodesWritten bytes lent) (tableOf bytes .columns) .verdict ≡ 1 → ⊥) →
+      FirstFailing
+      (says (tableOf bytes .rows))
+      (tableOf bytes .columns)
+      (columns (growthOf (nodesWritten bytes lent) (tableOf bytes .columns) .situation))
+      (growthOf (nodesWritten bytes lent) (tableOf bytes .columns) .column)
+      (fromNumber (growthOf (nodesWritten bytes lent) (tableOf bytes .columns) .answer))
+  no-shows-the-tables-first v =
+      first-same (answerAt (nodesWritten bytes lent)) (says (tableOf bytes .rows)) (tableOf bytes .columns) nodes-say
+      (no-shows-the-first (nodesWritten bytes lent) (tableOf bytes .columns)
+      (other-no (nodesWritten bytes lent) (tableOf bytes .columns) nodes-evaluate v))
 
   -- Under a table that got a yes ..
   module _ (yes : growthOf (nodesWritten bytes lent) (tableOf bytes .columns) .verdict ≡ 1) where
