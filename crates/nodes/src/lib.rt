@@ -130,7 +130,7 @@ fn push(m: Machine, a: Answer) -> Machine
     }
 }
 
-// A column's answer pushed. It is read once there is room for it: read before, it costs a test more.
+// A column's answer pushed. It is read after the room is tested, which takes fewer instructions than before it.
 fn column(m: Machine, k: usize, situation: &[u8]) -> Machine
     requires { ⌜ (Ready m) × (Small (now situation)) ⌝ }
     ensures { λ r. ⌜ Stepped (answersOf (now (situation .entry))) (Column k) m r ⌝ }
@@ -182,7 +182,7 @@ fn step(m: Machine, node: Node, situation: &[u8]) -> Machine
     }
 }
 
-// The first place, from one on, where no turn stands.
+// The first place, from one on, where no turn stands: runs do turns at once, here and in all lanes of a word.
 pub fn past_turns(nodes: &[u8], from: usize) -> usize
     ensures { λ r. ⌜ r ≡ from + turns (drop from (now (nodes .entry))) ⌝ }
 {
