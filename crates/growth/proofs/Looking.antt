@@ -10,7 +10,7 @@ use Rattle.answers.specs.declared.Answer.{Answer}
 use Rattle.situations.specs.Meaning.{situationAt}
 use Rattle.situations.proofs.Base4.{situationAt-length}
 use Rattle.planes.specs.Meaning.{weightOf}
-use Rattle.planes.proofs.Filling.{weight-power}
+use Rattle.planes.proofs.Weights.{weight-power}
 use Rattle.growth.specs.Meaning.{firstFrom, firstAnswer, columnFails, firstColumn, situationFails, firstSituation}
 use Rattle.growth.specs.Inside.{inBlock, Within, Looking}
 

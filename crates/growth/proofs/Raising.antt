@@ -13,7 +13,7 @@ use Rattle.situations.specs.Meaning.{indexOnto, index, situationAt}
 use Rattle.situations.proofs.Base4.{situationAt-length, index-situationAt, index-small}
 use Rattle.planes.specs.Meaning.{weightOf}
 use Rattle.planes.proofs.Columns.{situationAt-column}
-use Rattle.planes.proofs.Filling.{weight-power, power-small}
+use Rattle.planes.proofs.Weights.{weight-power, power-small}
 use Rattle.growth.specs.Inside.{Pair, At}
 
 -- the highest digit stands apart

@@ -19,7 +19,8 @@ use Rattle.nodes.specs.Meaning.{run, evaluateOf}
 use Rattle.planes.specs.Meaning.{weightOf, blockOf}
 use Rattle.planes.specs.declared.Block.{Block}
 use Rattle.planes.proofs.Columns.{situationAt-column}
-use Rattle.planes.proofs.Filling.{weight-power, power-some, zeros, zeros-at, below-or-not, fine-some, fine-most}
+use Rattle.planes.proofs.Weights.{weight-power, power-some}
+use Rattle.planes.proofs.Filling.{zeros, zeros-at, below-or-not, fine-some, fine-most}
 use Rattle.planes.proofs.Blocks.{block-refused, block-fine, block-none, block-size, block-answer}
 use Rattle.growth.specs.declared.Growth.{Growth}
 use Rattle.growth.specs.Meaning.{answerAt, firstAnswer, firstColumn, situationFails, firstSituation, without, spelledOf, shown, growthOf}

@@ -66,7 +66,7 @@ unfoldable pub turnedBy : ℕ → Answer → Answer
 turnedBy zero p = p
 turnedBy (suc n) p = turnedBy n (turn p)
 
--- only turns stand from one place to another
+-- the turns that stand from one place on end where those from another one end
 pub record Passed (nodes : List ℕ) (start i : ℕ) : Type 0 where
   pub same : start + turns (drop start nodes) ≡ i + turns (drop i nodes)
 

@@ -69,7 +69,7 @@ run height s place stack (b ∷ nodes) = next (step height s (nodeOf b) stack) p
 unfoldable pub evaluateOf : List ℕ → List ℕ → Reply
 evaluateOf nodes s = after (fault s) (λ r. record { refusal = r; answer = Silent }) (run 16 (answersOf s) 0 [] nodes)
 
--- How many turns an array begins with: the law run-turns says that a run may do them at once.
+-- No rule of the document: how many turns (node 5) an array begins with. The law run-turns says that a run may do them at once.
 unfoldable pub turns : List ℕ → ℕ
 turns [] = 0
 turns (b ∷ nodes) = cond (eqb b 5) (suc (turns nodes)) 0

@@ -4,7 +4,7 @@
 // It refuses first the situation (SITUATION: a length outside 1 to 6, else the first answer above 3), then the nodes from
 // left to right: a byte that is no node (NODE), a column that the situation has not (COLUMN), too few operands (UNDER), a
 // push onto a full stack (DEEP), each at the node's index; last a stack that does not hold exactly one answer (END, at the
-// array's length).
+// array's length). `decode` and `past_turns`, which finds the end of a row of turns, refuse nothing.
 ghost use mathlib.Core.Path.{_≡_};
 ghost use mathlib.Core.List.{[]};
 ghost use Prim.Native.Nat.{_+_, _%_, _≤_};
@@ -58,8 +58,9 @@ fn wide(x: u8) -> usize
     x as usize
 }
 
-// What a byte stands for, in the order in which a run over a compiled table meets them: columns, then meets. It does the
-// turns behind a column at once and seldom meets one by itself.
+// What a byte stands for. A run over a compiled table meets columns most often, then meets; it does the turns behind a
+// column at once and seldom meets one by itself. Joins are asked for apart: four tests for equality in a row would become
+// a jump through a table, which takes more instructions.
 pub fn decode(b: u8) -> Node
     ensures { λ r. ⌜ r ≡ nodeOf b ⌝ }
 {

@@ -7,8 +7,8 @@ use mathlib.Core.List.{List, [], _++_}
 use lib.ListN.{length, getD, set, replicate, length-append, length-replicate, length-set, List·getD-append}
 use lib.Seq.{getD-set-same, getD-set-other, getD-append-add, ext-getD}
 use lib.Dec.{ltb}
-use borrow.Author.Tests.{lt-ltb, le-ltb, ltb-true, ltb-false, eq-eqb, ne-eqb}
-use native.Mathlib.Nat.{eq-or-lt-of-le, pow-suc, add-zero, zero-add}
+use borrow.Author.Tests.{ltb-true, ltb-false, eq-eqb, ne-eqb}
+use native.Mathlib.Nat.{eq-or-lt-of-le, add-zero, zero-add}
 use native.Mathlib.Omega.{arith}
 use Rattle.refusals.specs.Meaning.{none, refused, SITUATION}
 use Rattle.refusals.specs.declared.Refusal.{Refusal}
@@ -26,86 +26,7 @@ use Rattle.planes.specs.declared.Word.{Word}
 use Rattle.planes.specs.declared.Block.{Block}
 use Rattle.planes.specs.Meaning.{weightOf, answerAt, answersFrom, blockOf}
 use Rattle.planes.specs.Inside.{bit, lane, Ran, Unpacked, Lanes, Filled, Answered, Filling}
-
--- the weights of digits
-module _ (e : ℕ) where
-  pub weight-0 : e ≡ 0 → 1 ≡ weightOf e
-  weight-0 h = rw h
-
-  pub weight-1 : e ≡ 1 → 4 ≡ weightOf e
-  weight-1 h = rw h
-
-  pub weight-2 : e ≡ 2 → 16 ≡ weightOf e
-  weight-2 h = rw h
-
-  pub weight-3 : e ≡ 3 → 64 ≡ weightOf e
-  weight-3 h = rw h
-
-  pub weight-4 : e ≡ 4 → 256 ≡ weightOf e
-  weight-4 h = rw h
-
-  pub weight-5 : e ≡ 5 → 1024 ≡ weightOf e
-  weight-5 h = rw h
-
-  pub weight-6 : e ≡ 6 → 4096 ≡ weightOf e
-  weight-6 h = rw h
-
-pub weight-large :
-    (e : ℕ) → (e ≡ 0 → ⊥) → (e ≡ 1 → ⊥) → (e ≡ 2 → ⊥) → (e ≡ 3 → ⊥) → (e ≡ 4 → ⊥) → (e ≡ 5 → ⊥) → (e ≡ 6 → ⊥) → 0 ≡ weightOf e
-weight-large zero a b c d f g h = absurd (a refl)
-weight-large (suc zero) a b c d f g h = absurd (b refl)
-weight-large (suc (suc zero)) a b c d f g h = absurd (c refl)
-weight-large (suc (suc (suc zero))) a b c d f g h = absurd (d refl)
-weight-large (suc (suc (suc (suc zero)))) a b c d f g h = absurd (f refl)
-weight-large (suc (suc (suc (suc (suc zero))))) a b c d f g h = absurd (g refl)
-weight-large (suc (suc (suc (suc (suc (suc zero)))))) a b c d f g h = absurd (h refl)
-weight-large (suc (suc (suc (suc (suc (suc (suc e))))))) a b c d f g h = rw (lt-ltb 6 (suc (suc (suc (suc (suc (suc (suc e))))))) (omega arith))
-
-pub weight-power : (e : ℕ) → e ≤ 6 → weightOf e ≡ 4 ^ e
-weight-power e l = rw (le-ltb 6 e l)
-
--- at most 4,096, in whole words from three columns on
-pub power-small : (n : ℕ) → n ≤ 6 → 4 ^ n ≤ 4096
-power-small zero l = omega arith
-power-small (suc zero) l = omega arith
-power-small (suc (suc zero)) l = omega arith
-power-small (suc (suc (suc zero))) l = omega arith
-power-small (suc (suc (suc (suc zero)))) l = omega arith
-power-small (suc (suc (suc (suc (suc zero))))) l = omega arith
-power-small (suc (suc (suc (suc (suc (suc zero)))))) l = omega arith
-power-small (suc (suc (suc (suc (suc (suc (suc n))))))) l = absurd (omega arith)
-
-power-words : (n : ℕ) → 3 ≤ n → n ≤ 6 → 4 ^ n % 64 ≡ 0
-power-words zero k l = absurd (omega arith)
-power-words (suc zero) k l = absurd (omega arith)
-power-words (suc (suc zero)) k l = absurd (omega arith)
-power-words (suc (suc (suc zero))) k l = refl
-power-words (suc (suc (suc (suc zero)))) k l = refl
-power-words (suc (suc (suc (suc (suc zero))))) k l = refl
-power-words (suc (suc (suc (suc (suc (suc zero)))))) k l = refl
-power-words (suc (suc (suc (suc (suc (suc (suc n))))))) k l = absurd (omega arith)
-
-pub lanes-4 : (n : ℕ) → n ≡ 1 → Lanes n 4
-lanes-4 n e =
-    rw e
-    (record { some = omega arith; most = omega arith; steps = λ d k m. omega (arith, k, m); next = λ d m k. absurd (omega (arith, k)) })
-
-pub lanes-16 : (n : ℕ) → n ≡ 2 → Lanes n 16
-lanes-16 n e =
-    rw e
-    (record { some = omega arith; most = omega arith; steps = λ d k m. omega (arith, k, m); next = λ d m k. absurd (omega (arith, k)) })
-
-pub lanes-64 : (n : ℕ) → 1 ≤ n → n ≤ 6 → (n ≡ 1 → ⊥) → (n ≡ 2 → ⊥) → Lanes n 64
-lanes-64 n k l a b =
-    let h : 3 ≤ n = three n k a b in
-    let w : 4 ^ n % 64 ≡ 0 = power-words n h l in
-    record { some = omega arith; most = omega arith; steps = λ d m e. omega (arith, m, e, w); next = λ d e m. omega (arith, e) }
-  where
-    three : (n : ℕ) → 1 ≤ n → (n ≡ 1 → ⊥) → (n ≡ 2 → ⊥) → 3 ≤ n
-    three zero k a b = absurd (omega arith)
-    three (suc zero) k a b = absurd (a refl)
-    three (suc (suc zero)) k a b = absurd (b refl)
-    three (suc (suc (suc n))) k a b = omega arith
+use Rattle.planes.proofs.Weights.{weight-power, power-small, power-some}
 
 -- lanes written
 pub unpacked-none : (p : Planes) (old : List ℕ) (start : ℕ) → Unpacked p 0 old start old
@@ -173,10 +94,6 @@ below-or-not a b = go (ltb a b) refl
     go : (t : Bool) → ltb a b ≡ t → (a < b) ⊎ (b ≤ a)
     go true e = inl (ltb-true a b e)
     go false e = inr (ltb-false a b e)
-
-pub power-some : (n : ℕ) → 0 < 4 ^ n
-power-some zero = omega arith
-power-some (suc n) = omega (arith, pow-suc 4 n, power-some n)
 
 number-bits : (b k : ℕ) → b < 2 → k < 2 → number (fromNumber (b + 2 * k)) ≡ b + 2 * k
 number-bits b k l m = from-number (b + 2 * k) (omega arith)

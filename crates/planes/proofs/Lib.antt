@@ -3,5 +3,6 @@ pub mod Columns
 pub mod Acting
 pub mod Turning
 pub mod Lapping
+pub mod Weights
 pub mod Filling
 pub mod Blocks

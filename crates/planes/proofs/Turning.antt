@@ -5,7 +5,6 @@ use mathlib.Core.List.{List}
 use lib.ListN.{length, drop}
 use native.Mathlib.Omega.{arith}
 use Rattle.answers.specs.Meaning.{turn}
-use Rattle.answers.specs.declared.Answer.{Answer}
 use Rattle.nodes.specs.Meaning.{turns}
 use Rattle.nodes.specs.Inside.{turnedBy}
 use Rattle.nodes.proofs.Turning.{turnedBy-rest, turns-ahead, turns-inside, turns-same}
@@ -32,7 +31,7 @@ module _ (n : ℕ) (p : Planes) where
       unfolding turnedBy
       turned-3 w a b c =
           let e : n % 4 ≡ 3 = omega (arith, a, b, c) in
-          record { same = λ x l. w .same x l ∙ ap (λ (t : Answer). turn t) (v .same x l ∙ ap turn (u .same x l)) ∙ sym (turnedBy-rest n (lane x p) ∙ (rw e)) }
+          record { same = λ x l. w .same x l ∙ ap turn (v .same x l ∙ ap turn (u .same x l)) ∙ sym (turnedBy-rest n (lane x p) ∙ (rw e)) }
 
 -- the ways out of `turn_on`
 module _ (nodes : List ℕ) (start : ℕ) (planes : Planes) (l : start ≤ length nodes) where

@@ -101,8 +101,8 @@ module _ (bytes : List ℕ) (h : Accepts bytes) where
         λ law. t ∙ ap (λ (line : List ℕ). countLines (compileOf bytes 4223) ++ line) (line-yes verdict (e .1 law)),
       )
 
-  -- Else a no is printed, and the situation, the column and the new answer in its line are the first step at which the table
-  -- says less than before.
+  -- Else a no is printed, and the situation, the column and the new answer in its line are the first step at which what the
+  -- table said is not contained in what it says after.
   pub prints-no-first :
       (Grows (says (tableOf bytes .rows)) (tableOf bytes .columns) → ⊥) →
       (s : Situation)

@@ -97,7 +97,7 @@ module _ (bytes lent : List ℕ) (accepted : Compiles bytes lent) where
         λ g. e .1 (grows-same (says (tableOf bytes .rows)) (answerAt (nodesWritten bytes lent)) (tableOf bytes .columns) (λ s l. sym (nodes-say s l)) g),
       )
 
-  -- Every other verdict is a no, and shows the first step at which the table says less than before.
+  -- Every other verdict is a no, and shows the first step at which what the table said is not contained in what it says after.
   pub no-shows-the-tables-first :
       (growthOf (nodesWritten bytes lent) (tableOf bytes .columns) .verdict ≡ 1 → ⊥) →
       FirstFailing

@@ -1,5 +1,5 @@
 use borrow.Author.Needs.{needs}
-use Rattle.planes.proofs.Filling.{lanes-4, lanes-16, lanes-64}
+use Rattle.planes.proofs.Weights.{lanes-4, lanes-16, lanes-64}
 use Rattle.planes.proofs.lanes.Statement.{statement}
 use Rattle.planes.proofs.lanes.Tie as tie
 

@@ -1,5 +1,5 @@
 use borrow.Author.Needs.{needs}
-use Rattle.planes.proofs.Filling.{weight-0, weight-1, weight-2, weight-3, weight-4, weight-5, weight-6, weight-large}
+use Rattle.planes.proofs.Weights.{weight-0, weight-1, weight-2, weight-3, weight-4, weight-5, weight-6, weight-large}
 use Rattle.planes.proofs.weight.Statement.{statement}
 use Rattle.planes.proofs.weight.Tie as tie
 
