@@ -1,4 +1,3 @@
 pub mod Every
-pub mod Above
 pub mod Claims
 pub mod Laws

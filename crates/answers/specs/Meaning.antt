@@ -1,15 +1,11 @@
 -- The four answers and what the operators make of them.
 use Prim.Native.Nat.{ℕ, zero, suc}
 use mathlib.Core.Bool.{Bool, true, false, cond}
-use mathlib.Core.List.{List, [], _∷_}
-use lib.Dec.{ltb, eqb}
-use lib.ListN.{length}
-use Rattle.refusals.specs.Meaning.{none, refused, after, VALUE}
-use Rattle.refusals.specs.declared.Refusal.{Refusal}
+use lib.Dec.{eqb}
+use Rattle.refusals.specs.Meaning.{none, refused}
 use Rattle.answers.specs.declared.Answer.{Answer}
 use Rattle.answers.specs.declared.Answer.the-variants.{Silent, Bury, Keep, Clash}
 use Rattle.answers.specs.declared.Reply.{Reply}
-use Rattle.answers.specs.declared.bytes.Related.{Related}
 use Rattle.answers.specs.declared.operators.One.{One}
 use Rattle.answers.specs.declared.operators.One.the-variants.{Negate, Turn, Floor, Ceiling}
 use Rattle.answers.specs.declared.operators.Two.{Two}
@@ -189,32 +185,3 @@ succeed a = record { refusal = none; answer = a }
 
 abbrev pub refuse : ℕ → ℕ → Reply
 refuse number place = record { refusal = refused number place; answer = Silent }
-
--- The index of the first byte above a limit, or the length.
-unfoldable pub firstAbove : ℕ → List ℕ → ℕ
-firstAbove limit [] = 0
-firstAbove limit (b ∷ bytes) = cond (ltb limit b) 0 (suc (firstAbove limit bytes))
-
--- "Where an entry point takes them as bytes or numbers, the first above 3 is VALUE, place its index among the operands
--- (x, p, q for replace)."
-unfoldable pub operandFault : List ℕ → Refusal
-operandFault operands =
-    cond (ltb (firstAbove 3 operands) (length operands)) (refused VALUE (firstAbove 3 operands)) none
-
-abbrev pub answerAfter : Refusal → Answer → Reply
-answerAfter check a = after check (λ r. record { refusal = r; answer = Silent }) (succeed a)
-
-unfoldable pub oneOf : One → ℕ → Reply
-oneOf operator p = answerAfter (operandFault (p ∷ [])) (applyOne operator (fromNumber p))
-
-unfoldable pub twoOf : Two → ℕ → ℕ → Reply
-twoOf operator p q = answerAfter (operandFault (p ∷ q ∷ [])) (applyTwo operator (fromNumber p) (fromNumber q))
-
-unfoldable pub replaceOf : ℕ → ℕ → ℕ → Reply
-replaceOf x p q = answerAfter (operandFault (x ∷ p ∷ q ∷ [])) (replace (fromNumber x) (fromNumber p) (fromNumber q))
-
-abbrev pub relatedAfter : Refusal → Bool → Related
-relatedAfter check b = after check (λ r. record { refusal = r; contained = false }) (record { refusal = none; contained = b })
-
-unfoldable pub containedOf : ℕ → ℕ → Related
-containedOf p q = relatedAfter (operandFault (p ∷ q ∷ [])) (contained (fromNumber p) (fromNumber q))

@@ -1,11 +1,9 @@
 // The four answers, both orders on them, and every operator of the document.
 //
-// The functions of this file and of `operators` take answers and refuse nothing. Those of `bytes` take operands
-// as bytes: the first operand above 3 is VALUE, its place the operand's index (x, p, q for replace).
+// They take answers and refuse nothing. The crate `operands` has the same for operands that are bytes.
 ghost use mathlib.Core.Path.{_≡_};
 ghost use Rattle.answers.specs.Meaning.{number, fromNumber, contained};
 
-pub mod bytes;
 pub mod operators;
 
 use refusals::Refusal;

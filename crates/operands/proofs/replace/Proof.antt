@@ -1,8 +1,8 @@
-use Rattle.answers.proofs.Above.{fault-refuses, fault-answers}
-use Rattle.answers.specs.Meaning.{replaceOf}
+use Rattle.operands.proofs.Replies.{fault-refuses, fault-answers}
+use Rattle.operands.specs.Meaning.{replaceOf}
 use borrow.Author.Needs.{needs}
-use Rattle.answers.proofs.bytes.replace.Statement.{statement}
-use Rattle.answers.proofs.bytes.replace.Tie as tie
+use Rattle.operands.proofs.replace.Statement.{statement}
+use Rattle.operands.proofs.replace.Tie as tie
 
 returns : tie.Need-returns
 unfolding replaceOf

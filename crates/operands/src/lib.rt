@@ -1,14 +1,19 @@
-// Entry points on bytes. The first operand above 3 is VALUE, its place the operand's index.
+// The operators, and contained-in, where the operands are bytes.
+//
+// It promises the operator's answer for operands that are answers.
+// It refuses the first operand above 3: VALUE, its place the operand's index (x, p, q for replace). The answer is then silent.
 ghost use mathlib.Core.Path.{_≡_};
-ghost use Rattle.answers.specs.Meaning.{firstAbove, operandFault, oneOf, twoOf, replaceOf, containedOf};
-use crate::Answer;
-use crate::Reply;
-use crate::from_number;
-use crate::operators;
-use crate::operators::One;
-use crate::operators::Two;
+ghost use Rattle.operands.specs.Meaning.{operandFault, operandsOf, oneOf, twoOf, replaceOf, containedOf};
+use answers::Answer;
+use answers::Reply;
+use answers::from_number;
+use answers::operators;
+use answers::operators::One;
+use answers::operators::Two;
 use refusals::Refusal;
 use refusals::VALUE;
+use refusals::none;
+use refusals::refused;
 
 // Whether p is contained in q: false in a refusal.
 pub struct Related {
@@ -16,37 +21,15 @@ pub struct Related {
     pub contained: bool,
 }
 
-// The index of the first byte above a limit, or the length. Situations and the cells of a row are looked through by it too.
-pub fn first_above(bytes: &[u8], limit: u8) -> usize
-    ensures { λ r. ⌜ r ≡ firstAbove limit (now (bytes .entry)) ⌝ }
-{
-    let mut i = 0;
-    while i < bytes.len() {
-        if bytes[i] > limit {
-            return i;
-        }
-        i += 1;
-    }
-    i
-}
-
 // What is wrong with these operands.
 fn operand_fault(operands: &[u8]) -> Refusal
     ensures { λ r. ⌜ r ≡ operandFault (now (operands .entry)) ⌝ }
 {
-    let place = first_above(operands, 3);
+    let place = fields::first_above(operands, 3);
     if place < operands.len() {
-        return Refusal {
-            number: VALUE,
-            place,
-            second: 0,
-        };
+        return refused(VALUE, place);
     }
-    Refusal {
-        number: 0,
-        place: 0,
-        second: 0,
-    }
+    none()
 }
 
 pub fn one(operator: One, p: u8) -> Reply
@@ -65,10 +48,20 @@ pub fn one(operator: One, p: u8) -> Reply
     }
 }
 
+// What is wrong with the operands of an operator: the answer that is replaced counts as one.
+fn two_fault(operator: Two, p: u8, q: u8) -> Refusal
+    ensures { λ r. ⌜ r ≡ operandFault (operandsOf operator p q) ⌝ }
+{
+    match operator {
+        Two::Replace(x) => operand_fault(&[answers::number(x), p, q]),
+        _ => operand_fault(&[p, q]),
+    }
+}
+
 pub fn two(operator: Two, p: u8, q: u8) -> Reply
     ensures { λ r. ⌜ r ≡ twoOf operator p q ⌝ }
 {
-    let refusal = operand_fault(&[p, q]);
+    let refusal = two_fault(operator, p, q);
     if refusal.number != 0 {
         return Reply {
             refusal,
@@ -109,6 +102,6 @@ pub fn contained(p: u8, q: u8) -> Related
     }
     Related {
         refusal,
-        contained: crate::contained(from_number(p), from_number(q)),
+        contained: answers::contained(from_number(p), from_number(q)),
     }
 }

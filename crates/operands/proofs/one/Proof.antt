@@ -1,8 +1,8 @@
-use Rattle.answers.proofs.Above.{fault-refuses, fault-answers}
-use Rattle.answers.specs.Meaning.{oneOf}
+use Rattle.operands.proofs.Replies.{fault-refuses, fault-answers}
+use Rattle.operands.specs.Meaning.{oneOf}
 use borrow.Author.Needs.{needs}
-use Rattle.answers.proofs.bytes.one.Statement.{statement}
-use Rattle.answers.proofs.bytes.one.Tie as tie
+use Rattle.operands.proofs.one.Statement.{statement}
+use Rattle.operands.proofs.one.Tie as tie
 
 returns : tie.Need-returns
 unfolding oneOf

@@ -1,8 +1,8 @@
-use Rattle.answers.proofs.Above.{fault-unrelated, fault-relates}
-use Rattle.answers.specs.Meaning.{containedOf}
+use Rattle.operands.proofs.Replies.{fault-unrelated, fault-relates}
+use Rattle.operands.specs.Meaning.{containedOf}
 use borrow.Author.Needs.{needs}
-use Rattle.answers.proofs.bytes.contained.Statement.{statement}
-use Rattle.answers.proofs.bytes.contained.Tie as tie
+use Rattle.operands.proofs.contained.Statement.{statement}
+use Rattle.operands.proofs.contained.Tie as tie
 
 returns : tie.Need-returns
 unfolding containedOf
