@@ -1,7 +1,12 @@
-pub mod Above
+pub mod Faults
 pub mod Bytewise
-pub mod Refusing
+pub mod MergeReply
 pub mod Merging
-pub mod Base4
+pub mod Numbers
+pub mod Weights
+pub mod Columns
+pub mod Indexes
+pub mod Raised
+pub mod Silent
 pub mod Steps
 pub mod Replies

@@ -1,8 +1,8 @@
 -- What the reply of a merge says: handed back as it came, or the merger of the columns.
 use Prim.Native.Nat.{ℕ, _≤_}
-use mathlib.Core.Path.{_≡_, refl, ap, ap₂, _∙_}
+use mathlib.Core.Path.{_≡_, refl, ap, _∙_}
 use mathlib.Core.Bool.{Bool, true, false, cond}
-use mathlib.Core.List.{List, [], _∷_, map}
+use mathlib.Core.List.{List, map}
 use lib.Dec.{eqb}
 use lib.ListN.{length, take, drop, length-map, length-append, length-drop}
 use lib.Seq.{length-take-le, take-at}
@@ -10,16 +10,12 @@ use borrow.Author.Tests.{eqb-true, eqb-false}
 use native.Mathlib.Omega.{arith}
 use Rattle.answers.specs.Meaning.{number, fromNumber}
 use Rattle.answers.specs.declared.Answer.{Answer}
-use Rattle.answers.proofs.Claims.{number-from}
 use Rattle.situations.specs.declared.Situation.{Situation}
 use Rattle.situations.specs.declared.Merged.{Merged}
 use Rattle.situations.specs.Meaning.{answersOf, columns, faultOf, merge, mergeBytes, mergeOf}
-use Rattle.situations.proofs.Refusing.{faultless-short}
+use Rattle.situations.proofs.MergeReply.{faultless-short}
 use Rattle.situations.proofs.Merging.{merge-length}
-
-answersOf-number : (l : List Answer) → answersOf (map number l) ≡ l
-answersOf-number [] = refl
-answersOf-number (x ∷ l) = ap₂ (λ a r. a ∷ r) (number-from x) (answersOf-number l)
+use Rattle.situations.proofs.Numbers.{answersOf-number}
 
 merged-long :
     (n : ℕ) (s t : List ℕ) →

@@ -1,12 +1,13 @@
 -- Situations: which bytes are one, their merger, their order in base 4, and the steps between them.
-use Prim.Native.Nat.{ℕ, zero, suc, _+_, _*_, _/_, _%_, _<_}
+use Prim.Native.Nat.{ℕ, zero, suc, _+_, _*_, _/_, _%_, _^_, _<_}
 use mathlib.Core.Bool.{Bool, true, false, cond, _||_}
 use mathlib.Core.List.{List, [], _∷_, _++_, map}
 use lib.Dec.{T, ltb, eqb}
-use lib.ListN.{length, take, drop, getD, set}
+use lib.ListN.{length, take, drop, getD, set, replicate}
 use Rattle.refusals.specs.Meaning.{none, refused, after, SITUATION}
 use Rattle.refusals.specs.declared.Refusal.{Refusal}
-use Rattle.answers.specs.Meaning.{number, fromNumber, join, contained, firstAbove}
+use Rattle.fields.specs.Meaning.{firstAbove}
+use Rattle.answers.specs.Meaning.{number, fromNumber, join, contained}
 use Rattle.answers.specs.declared.Answer.{Answer}
 use Rattle.answers.specs.declared.Answer.the-variants.{Silent, Bury, Keep, Clash}
 use Rattle.situations.specs.declared.Situation.{Situation}
@@ -64,6 +65,14 @@ Within [] (y ∷ t) = ⊥
 Within (x ∷ s) [] = ⊥
 Within (x ∷ s) (y ∷ t) = T (contained x y) × Within s t
 
+-- The weight of a digit in base 4, which is also how many situations of e columns there are; 0 above the most columns.
+abbrev pub weight : ℕ → ℕ
+weight e = cond (ltb 6 e) 0 (4 ^ e)
+
+-- A digit of a number in base 4: the lowest one is digit 0.
+abbrev pub digit : ℕ → ℕ → ℕ
+digit w e = w / 4 ^ e % 4
+
 -- "Read as a base-4 number with column 0 as its highest digit (so wherever base 4 is named)."
 unfoldable pub indexOnto : ℕ → List Answer → ℕ
 indexOnto w [] = w
@@ -76,6 +85,10 @@ index s = indexOnto 0 s
 unfoldable pub situationAt : ℕ → ℕ → List Answer
 situationAt zero w = []
 situationAt (suc n) w = situationAt n (w / 4) ++ (fromNumber (w % 4) ∷ [])
+
+-- A situation by value: its answers, then 0, in six bytes.
+abbrev pub byValue : List Answer → Situation
+byValue s = record { length = length s; answers = take 6 (map number s ++ replicate 6 0) }
 
 -- "A step raises one column 0 to 1, 0 to 2, 1 to 3 or 2 to 3."
 abbrev pub raises : Answer → Answer → Bool

@@ -1,4 +1,5 @@
-// Situations: n answers, one for each column, n from 1 to 6. The check that every call on a situation starts with, and merging.
+// Situations: n answers, one for each column, n from 1 to 6. The check that every call on a situation starts with, merging,
+// and the numbers that situations have in base 4.
 //
 // It promises that a merger is the join column by column, and that a refused merge hands back the first situation as it came.
 // It refuses by SITUATION: a length outside 1 to 6 (place: the length), else the first answer above 3 (place: its index).
@@ -8,6 +9,9 @@ ghost use Prim.Native.Nat.{_≤_};
 ghost use lib.ListN.{length};
 ghost use Rattle.situations.specs.Meaning.{fault, faultOf, mergeBytes, mergeOf};
 ghost use Rattle.situations.specs.Inside.{joinNumbers};
+
+pub mod base4;
+
 use refusals::Refusal;
 use refusals::SITUATION;
 
@@ -28,32 +32,16 @@ pub fn fault(situation: &[u8]) -> Refusal
 {
     let length = situation.len();
     if length < 1 {
-        return Refusal {
-            number: SITUATION,
-            place: length,
-            second: 0,
-        };
+        return refusals::refused(SITUATION, length);
     }
     if 6 < length {
-        return Refusal {
-            number: SITUATION,
-            place: length,
-            second: 0,
-        };
+        return refusals::refused(SITUATION, length);
     }
-    let place = answers::bytes::first_above(situation, 3);
+    let place = fields::first_above(situation, 3);
     if place < length {
-        return Refusal {
-            number: SITUATION,
-            place,
-            second: 0,
-        };
+        return refusals::refused(SITUATION, place);
     }
-    Refusal {
-        number: 0,
-        place: 0,
-        second: 0,
-    }
+    refusals::none()
 }
 
 // The number of the join of two answers with these numbers.
@@ -85,11 +73,7 @@ impl Situation {
         let length = self.length;
         let answers = self.answers;
         if 6 < length {
-            return Refusal {
-                number: SITUATION,
-                place: length,
-                second: 0,
-            };
+            return refusals::refused(SITUATION, length);
         }
         fault(&answers[..length])
     }
@@ -116,22 +100,14 @@ impl Situation {
         let others = other.length;
         if length != others {
             return Merged {
-                refusal: Refusal {
-                    number: SITUATION,
-                    place: others,
-                    second: 0,
-                },
+                refusal: refusals::refused(SITUATION, others),
                 situation: self,
             };
         }
         let answers = self.answers;
         let more = other.answers;
         Merged {
-            refusal: Refusal {
-                number: 0,
-                place: 0,
-                second: 0,
-            },
+            refusal: refusals::none(),
             situation: Situation {
                 length,
                 answers: joined(answers, more, length),

@@ -1,4 +1,4 @@
-use Rattle.situations.proofs.Above.{fault-short, fault-long, fault-above, fault-none}
+use Rattle.situations.proofs.Faults.{fault-short, fault-long, fault-above, fault-none}
 use borrow.Author.Needs.{needs}
 use Rattle.situations.proofs.fault.Statement.{statement}
 use Rattle.situations.proofs.fault.Tie as tie
@@ -16,4 +16,15 @@ returns-4 : tie.Need-returns-4
 returns-4 c = search (needs, fault-none)
 
 pub fault-spec : {M : Type 1} → statement M
-fault-spec = tie.close (tie.spec returns returns-2 (λ c κs. search needs) returns-3 returns-4)
+fault-spec =
+    tie.close
+    (tie.spec
+    (λ c κs. search needs)
+    returns
+    (λ c κs. search needs)
+    returns-2
+    (λ c κs. search needs)
+    (λ c κs. search needs)
+    returns-3
+    (λ c κs. search needs)
+    returns-4)

@@ -1,5 +1,5 @@
 use Rattle.situations.proofs.Bytewise.{prefix-inside, prefix-long}
-use Rattle.situations.proofs.Above.{faultOf-long, faultOf-slice}
+use Rattle.situations.proofs.Faults.{faultOf-long, faultOf-slice}
 use borrow.Author.Needs.{needs}
 use Rattle.situations.proofs.Situation.fault.Statement.{statement}
 use Rattle.situations.proofs.Situation.fault.Tie as tie
@@ -19,4 +19,4 @@ returns-2 c = search (needs, faultOf-slice)
 pub fault-spec : {M : Type 1} → statement M
 fault-spec =
     tie.close
-    (tie.spec returns array-share-prefix-answers slice-aggregate-fault (λ c κs. search needs) returns-2)
+    (tie.spec (λ c κs. search needs) returns array-share-prefix-answers slice-aggregate-fault (λ c κs. search needs) returns-2)

@@ -1,4 +1,4 @@
-use Rattle.situations.proofs.Refusing.{merge-first, merge-second, merge-lengths, merge-joined, faultless-short}
+use Rattle.situations.proofs.MergeReply.{merge-first, merge-second, merge-lengths, merge-joined, faultless-short}
 use borrow.Author.Needs.{needs}
 use Rattle.situations.proofs.Situation.merge.Statement.{statement}
 use Rattle.situations.proofs.Situation.merge.Tie as tie
@@ -26,6 +26,8 @@ merge-spec =
     returns
     (λ c κs. search needs)
     returns-2
+    (λ c κs. search needs)
     returns-3
+    (λ c κs. search needs)
     joined-requires
     returns-4)

@@ -22,17 +22,19 @@ module _ (s t : Situation) {r : Refusal} (f : r ≡ faultOf s) where
     merge-second x = rw (← f, eq-eqb (r .number) 0 a, ← g, ne-eqb (q .number) 0 x)
 
     module _ (b : q .number ≡ 0) where
-      pub merge-lengths : (s .length ≡ t .length → ⊥) → record { refusal = refused SITUATION (t .length); situation = s } ≡ mergeOf s t
+      pub merge-lengths :
+          {l : Refusal} → (s .length ≡ t .length → ⊥) → l ≡ refused SITUATION (t .length) → record { refusal = l; situation = s } ≡ mergeOf s t
       unfolding mergeOf
-      merge-lengths x = rw (← f, eq-eqb (r .number) 0 a, ← g, eq-eqb (q .number) 0 b, ne-eqb (s .length) (t .length) x)
+      merge-lengths x e = rw (e, ← f, eq-eqb (r .number) 0 a, ← g, eq-eqb (q .number) 0 b, ne-eqb (s .length) (t .length) x)
 
       pub merge-joined :
           s .length ≡ t .length →
-          {l : List ℕ} →
+          {l : List ℕ} {o : Refusal} →
+          o ≡ none →
           l ≡ mergeBytes (s .length) (s .answers) (t .answers) →
-          record { refusal = none; situation = record { length = s .length; answers = l } } ≡ mergeOf s t
+          record { refusal = o; situation = record { length = s .length; answers = l } } ≡ mergeOf s t
       unfolding mergeOf
-      merge-joined x e = rw (← f, eq-eqb (r .number) 0 a, ← g, eq-eqb (q .number) 0 b, eq-eqb (s .length) (t .length) x, e)
+      merge-joined x o e = rw (o, ← f, eq-eqb (r .number) 0 a, ← g, eq-eqb (q .number) 0 b, eq-eqb (s .length) (t .length) x, e)
 
 -- a situation without a fault has at most six columns
 pub faultless-short : (s : Situation) {r : Refusal} → r ≡ faultOf s → r .number ≡ 0 → s .length ≤ 6

@@ -1,14 +1,18 @@
 -- Situations in base 4: from a number to its situation and back.
 use Prim.Native.Nat.{ℕ, zero, suc, _+_, _*_, _/_, _%_, _^_, _≤_, _<_}
-use mathlib.Core.Path.{_≡_, refl, sym, _∙_}
-use mathlib.Core.List.{List, [], _∷_, _++_, append-assoc, append-nil}
+use mathlib.Core.Path.{_≡_, refl, ap₂, sym, _∙_}
+use mathlib.Core.List.{List, [], _∷_, _++_, map, append-assoc, append-nil}
 use lib.ListN.{length, length-append}
 use native.Mathlib.Nat.{pow-suc, add-zero, zero-add, mul-comm, mul-assoc, one-mul, mul-le-mul-right, lt-of-lt-of-le}
 use native.Mathlib.Omega.{arith}
 use Rattle.answers.specs.Meaning.{number, fromNumber}
 use Rattle.answers.specs.declared.Answer.{Answer}
 use Rattle.answers.proofs.Claims.{number-from, from-number, number-small}
-use Rattle.situations.specs.Meaning.{indexOnto, index, situationAt}
+use Rattle.situations.specs.Meaning.{answersOf, indexOnto, index, situationAt}
+
+pub answersOf-number : (l : List Answer) → answersOf (map number l) ≡ l
+answersOf-number [] = refl
+answersOf-number (x ∷ l) = ap₂ (λ a r. a ∷ r) (number-from x) (answersOf-number l)
 
 pub situationAt-length : (n w : ℕ) → length (situationAt n w) ≡ n
 unfolding situationAt

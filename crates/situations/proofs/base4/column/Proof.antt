@@ -1,0 +1,15 @@
+use Rattle.situations.proofs.Columns.{column-digit, column-none}
+use borrow.Author.Needs.{needs}
+use Rattle.situations.proofs.base4.column.Statement.{statement}
+use Rattle.situations.proofs.base4.column.Tie as tie
+
+returns : tie.Need-returns
+returns c = search (needs, column-digit)
+
+returns-2 : tie.Need-returns-2
+returns-2 c = search (needs, column-none)
+
+pub column-spec : {M : Type 1} → statement M
+column-spec =
+    tie.close
+    (tie.spec (λ c. search needs) (λ c. search needs) (λ c κs. search needs) (λ c. search needs) returns returns-2)

@@ -1,0 +1,13 @@
+use Rattle.situations.proofs.Weights.{digit-large, digit-shift}
+use borrow.Author.Needs.{needs}
+use Rattle.situations.proofs.base4.digit.Statement.{statement}
+use Rattle.situations.proofs.base4.digit.Tie as tie
+
+returns : tie.Need-returns
+returns c = search (needs, digit-large)
+
+returns-2 : tie.Need-returns-2
+returns-2 c = search (needs, digit-shift)
+
+pub digit-spec : {M : Type 1} → statement M
+digit-spec = tie.close (tie.spec returns (λ c. search needs) (λ c. search needs) returns-2)
