@@ -1,6 +1,3 @@
-pub mod Fields
-pub mod Rests
+pub mod Faults
 pub mod Found
-pub mod Bytes
-pub mod Encoding
-pub mod Accepted
+pub mod Rests

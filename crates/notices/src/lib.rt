@@ -2,25 +2,31 @@
 //
 // `read_notice` takes any bytes and says how many facts they hold, or what is wrong. A notice that it accepts is the
 // encoding of exactly one list of at most 32 facts whose numbers strictly rise. `look_up` finds a fact in a notice, and
-// `compare` and `present` are what a voice can ask of what was found.
+// `compare` and `present` are what a voice can ask of it.
 //
 // Refused, in this order at each field: fewer than three bytes left, SHORT; another tag than 16, TAG; a 33rd fact,
 // FACTS; another length than 6, LEN; a value past the end, SHORT; a number that does not pass the last one, RISE.
 // The place is the field's offset in the whole notice.
 ghost use mathlib.Core.Path.{_≡_};
-ghost use Prim.Native.Nat.{_-_, _<_};
+ghost use Prim.Native.Nat.{_-_};
 ghost use Rattle.notices.specs.Meaning.{fault, factsIn, seen, compare, present, noticeOf};
-ghost use Rattle.notices.specs.Inside.{Two, Four, Within, restOf};
+ghost use Rattle.notices.specs.Inside.{RestAt, restOf};
 use refusals::FACTS;
 use refusals::LEN;
 use refusals::RISE;
 use refusals::Refusal;
 use refusals::SHORT;
 use refusals::TAG;
+use refusals::none;
+use refusals::refused;
 
 const MOST_FACTS: usize = 32;
 
-const HEADER: usize = 3;
+// The tag of a field that holds a fact.
+const FACT: u8 = 16;
+
+// A number and a value.
+const SIZE: usize = 6;
 
 // A header, a number and a value.
 const FIELD: usize = 9;
@@ -43,83 +49,50 @@ pub enum Comparison {
     Below,
 }
 
-// A byte as a number that can be reckoned with.
-fn wide(byte: u8) -> u32
-    ensures { λ r. ⌜ (r ≡ byte) × (r < 256) ⌝ }
+// Why the field that `rest` starts with is refused, if it is. It stands at the offset `at`, `facts` were read before it,
+// and its number must be at least `least`.
+fn fault(rest: &[u8], at: usize, facts: usize, least: u32) -> Refusal
+    ensures { λ r. ⌜ r ≡ fault (32 - facts) at least (now (rest .entry)) ⌝ }
 {
-    byte as u32
-}
-
-// Two bytes as a number, high byte first.
-pub fn two(high: u8, low: u8) -> u32
-    ensures { λ r. ⌜ Two high low r ⌝ }
-{
-    wide(high) * 256 + wide(low)
-}
-
-// Four bytes as a number, high byte first.
-pub fn four(a: u8, b: u8, c: u8, d: u8) -> u32
-    ensures { λ r. ⌜ Four a b c d r ⌝ }
-{
-    two(a, b) * 65536 + two(c, d)
-}
-
-// What is wrong with the field that `rest` starts with, 0 if nothing. `facts` were read before it, and its number must
-// be at least `least`.
-fn fault(rest: &[u8], facts: usize, least: u32) -> u8
-    ensures { λ r. ⌜ r ≡ fault (32 - facts) least (now (rest .entry)) ⌝ }
-{
-    if rest.len() < HEADER {
-        return SHORT;
+    if fields::short_header(rest) {
+        return refused(SHORT, at);
     }
-    if rest[0] != 16 {
-        return TAG;
+    if fields::tag(rest) != FACT {
+        return refused(TAG, at);
     }
     if facts >= MOST_FACTS {
-        return FACTS;
+        return refused(FACTS, at);
     }
-    let length = two(rest[1], rest[2]);
-    if length != 6 {
-        return LEN;
+    if fields::size(rest) != SIZE {
+        return refused(LEN, at);
     }
-    if rest.len() < FIELD {
-        return SHORT;
+    if fields::short_value(rest, SIZE) {
+        return refused(SHORT, at);
     }
-    let number = two(rest[3], rest[4]);
+    let number = fields::two(rest[3], rest[4]);
     if number < least {
-        return RISE;
+        return refused(RISE, at);
     }
-    0
+    none()
 }
 
 // The rest of a notice, read as a notice of its own: it stands at the offset `at`, `facts` were read before it, and its
 // first number must be at least `least`.
 fn read_rest(rest: &[u8], at: usize, facts: usize, least: u32) -> Noticed
-    requires { ⌜ Within at facts ⌝ }
+    requires { ⌜ RestAt at facts ⌝ }
     ensures { λ r. ⌜ r ≡ restOf (32 - facts) facts at least (now (rest .entry)) ⌝ }
 {
     if rest.len() == 0 {
         return Noticed {
-            refusal: Refusal {
-                number: 0,
-                place: 0,
-                second: 0,
-            },
+            refusal: none(),
             facts,
         };
     }
-    let number = fault(rest, facts, least);
-    if number != 0 {
-        return Noticed {
-            refusal: Refusal {
-                number,
-                place: at,
-                second: 0,
-            },
-            facts: 0,
-        };
+    let refusal = fault(rest, at, facts, least);
+    if refusal.number != 0 {
+        return Noticed { refusal, facts: 0 };
     }
-    let last = two(rest[3], rest[4]);
+    let last = fields::two(rest[3], rest[4]);
     read_rest(&rest[FIELD..], at + FIELD, facts + 1, last + 1)
 }
 
@@ -140,9 +113,9 @@ fn seek(rest: &[u8], fact: u32, left: usize) -> Seen
     if rest.len() < FIELD {
         return Seen::Absent;
     }
-    let number = two(rest[3], rest[4]);
+    let number = fields::two(rest[3], rest[4]);
     if number == fact {
-        return Seen::Value(four(rest[5], rest[6], rest[7], rest[8]));
+        return Seen::Value(fields::four(rest[5], rest[6], rest[7], rest[8]));
     }
     seek(&rest[FIELD..], fact, left - 1)
 }
@@ -154,17 +127,14 @@ pub fn look_up(notice: &[u8], fact: u32) -> Seen
     seek(notice, fact, MOST_FACTS)
 }
 
-// Whether what was seen of a fact compares so with a value. Of an absent fact no comparison is true.
-pub fn compare(comparison: Comparison, fact: Seen, value: u32) -> bool
-    ensures { λ r. ⌜ r ≡ compare comparison fact value ⌝ }
+// Whether a fact's value compares so with another.
+pub fn compare(comparison: Comparison, x: u32, value: u32) -> bool
+    ensures { λ r. ⌜ r ≡ compare comparison x value ⌝ }
 {
-    match fact {
-        Seen::Absent => false,
-        Seen::Value(x) => match comparison {
-            Comparison::Equal => x == value,
-            Comparison::AtLeast => x >= value,
-            Comparison::Below => x < value,
-        },
+    match comparison {
+        Comparison::Equal => x == value,
+        Comparison::AtLeast => x >= value,
+        Comparison::Below => x < value,
     }
 }
 

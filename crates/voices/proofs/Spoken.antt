@@ -1,88 +1,85 @@
 -- The reply to a notice and a voice, from what the reader of notices replies and from what the root is told.
 use Prim.Native.Nat.{ℕ, _≤_, _<_}
 use mathlib.Core.Path.{_≡_, refl, sym, ap, _∙_}
-use mathlib.Core.Bool.{cond}
+use mathlib.Core.Bool.{Bool, true, false, cond}
 use mathlib.Core.List.{List}
 use native.Mathlib.Omega.{arith}
 use lib.Dec.{ltb}
 use lib.ListN.{length}
 use borrow.Author.Tests.{lt-ltb, le-ltb}
-use Rattle.refusals.specs.Meaning.{TAIL}
+use Rattle.refusals.specs.declared.Refusal.{Refusal}
+use Rattle.refusals.specs.Meaning as refusal
 use Rattle.answers.specs.declared.Answer.{Answer}
+use Rattle.answers.specs.declared.Answer.the-variants.{Silent}
 use Rattle.answers.specs.declared.Reply.{Reply}
-use Rattle.answers.specs.Meaning.{refuse, succeed}
 use Rattle.notices.specs.declared.Noticed.{Noticed}
 use Rattle.notices.specs.Meaning as notice
 use Rattle.notices.proofs.Found.{Found, readRest-found}
-use Rattle.voices.specs.declared.Told.{Told}
-use Rattle.voices.specs.declared.Told.the-variants.{Said, Stopped}
-use Rattle.voices.specs.Meaning.{Policy, says, Read, made, stopped, andThen, policyAt, readVoice, spoken, speakOf}
-use Rattle.voices.specs.Inside.{toldAt}
-use Rattle.voices.proofs.Trees.{toldOf, toldAt-tree}
+use Rattle.policies.specs.declared.Told.{Told}
+use Rattle.policies.specs.declared.Told.the-variants.{Said, Refused}
+use Rattle.policies.specs.Meaning.{Policy, says, compared, Read, made, refused, andThen, told, policyAt}
+use Rattle.voices.specs.Meaning.{readVoice, spoken, speakOf}
 
-refused : (x : notice.Reading) (y : Read Policy) → (notice.noticed x .refusal .number ≡ 0 → ⊥) →
-    refuse (notice.noticed x .refusal .number) (notice.noticed x .refusal .place) ≡ spoken x y
-refused (notice.facts fs) y h = absurd (h refl)
-refused (notice.stopped number place) y h = refl
+of-notice : (x : notice.Reading) (y : Read Policy) → (notice.noticed x .refusal .number ≡ 0 → ⊥) →
+    record { refusal = notice.noticed x .refusal; answer = Silent } ≡ spoken x y
+of-notice (notice.facts fs) y h = absurd (h refl)
+of-notice (notice.refused r) y h = refl
 
-pub spoken-notice : (n v : List ℕ) (w : Noticed) {r : Reply} → w ≡ notice.noticeOf n → (w .refusal .number ≡ 0 → ⊥) →
-    r ≡ refuse (w .refusal .number) (w .refusal .place) → r ≡ speakOf n v
-spoken-notice n v w e h g =
-    g ∙ ap (λ (x : Noticed). refuse (x .refusal .number) (x .refusal .place)) e
-    ∙ refused (notice.readFacts n) (readVoice v) (λ z. h (ap (λ (x : Noticed). x .refusal .number) e ∙ z))
+pub spoken-notice : (n v : List ℕ) (w : Noticed) → w ≡ notice.noticeOf n → (w .refusal .number ≡ 0 → ⊥) →
+    record { refusal = w .refusal; answer = Silent } ≡ speakOf n v
+spoken-notice n v w e h =
+    ap (λ (x : Noticed). record { refusal = x .refusal; answer = Silent }) e
+    ∙ of-notice (notice.readFacts n) (readVoice v) (λ z. h (ap (λ (x : Noticed). x .refusal .number) e ∙ z))
 
 -- An accepted notice's facts are those found in it.
 accepted : (n : List ℕ) (x : notice.Reading) (y : Read Policy) → Found 32 n x → notice.noticed x .refusal .number ≡ 0 →
     spoken (notice.facts (notice.factsIn 32 n)) y ≡ spoken x y
 accepted n (notice.facts fs) y h z = ap (λ (l : List notice.Fact). spoken (notice.facts l) y) h
-accepted n (notice.stopped number place) y h z = absurd (h z)
+accepted n (notice.refused r) y h z = absurd (h z)
 
+-- The reply, from the answer that the root is told.
 module _ (fs : List notice.Fact) (v : List ℕ) where
-  finish : Read Policy → Read Policy
-  finish x = andThen x (λ p end. cond (ltb end (length v)) (stopped TAIL end) (made p end))
+  unfoldable replied : Told → Reply
+  replied (Said a end) =
+      cond (ltb end (length v)) (record {
+        refusal =
+            refusal.refused refusal.TAIL end;
+        answer = Silent;
+      }) (record { refusal = refusal.none; answer = a })
+  replied (Refused r) = record { refusal = r; answer = Silent }
 
-  finish-stop : (x : Read Policy) {number place : ℕ} → Stopped number place ≡ toldOf fs x → refuse number place ≡ spoken (notice.facts fs) (finish x)
-  unfolding finish
-  finish-stop (made p end) {number} {place} e = absurd (never e)
+  replied-told : (x : Read Policy) →
+      spoken (notice.facts fs) (andThen x (λ p end. cond (ltb end (length v)) (refused (refusal.refused refusal.TAIL end)) (made p end))) ≡
+      replied (told fs x)
+  unfolding replied told
+  replied-told (made p end) = go (ltb end (length v))
     where
-      never : Stopped number place ≡ Said (says fs p) end → ⊥
-      never q = let z : _≡_ {A = ℕ} 0 1 = cc in omega arith
-  finish-stop (stopped m q) {number} {place} e =
-      let a : number ≡ m = cc in
-      let b : place ≡ q = cc in
-      rw (a, b)
+      go : (b : Bool) → spoken (notice.facts fs) (cond b (refused (refusal.refused refusal.TAIL end)) (made p end)) ≡
+          cond b (record {
+            refusal =
+                refusal.refused refusal.TAIL end;
+            answer = Silent;
+          }) (record { refusal = refusal.none; answer = says fs (compared fs) p })
+      go true = refl
+      go false = refl
+  replied-told (refused r) = refl
 
-  finish-tail : (x : Read Policy) {a : Answer} {end : ℕ} → Said a end ≡ toldOf fs x → end < length v → refuse TAIL end ≡ spoken (notice.facts fs) (finish x)
-  unfolding finish
-  finish-tail (made p e′) {a} {end} e h =
-      let i : end ≡ e′ = cc in
-      rw (← i, lt-ltb end (length v) h)
-  finish-tail (stopped m q) e h = let z : _≡_ {A = ℕ} 0 1 = cc in absurd (omega arith)
+module _ (n v : List ℕ) (w : Noticed) (e : w ≡ notice.noticeOf n) (z : w .refusal .number ≡ 0)
+    {x : Told} (f : x ≡ told (notice.factsIn 32 n) (policyAt 16 v 0)) where
+  onward : replied (notice.factsIn 32 n) v x ≡ speakOf n v
+  onward =
+      ap (replied (notice.factsIn 32 n) v) f ∙ sym (replied-told (notice.factsIn 32 n) v (policyAt 16 v 0))
+      ∙ accepted n (notice.readFacts n) (readVoice v) (readRest-found 32 0 0 n) (sym (ap (λ (x : Noticed). x .refusal .number) e) ∙ z)
 
-  finish-done : (x : Read Policy) {a : Answer} {end : ℕ} → Said a end ≡ toldOf fs x → length v ≤ end → succeed a ≡ spoken (notice.facts fs) (finish x)
-  unfolding finish
-  finish-done (made p e′) {a} {end} e h =
-      let i : end ≡ e′ = cc in
-      let j : a ≡ says fs p = cc in
-      rw (← i, le-ltb end (length v) h, j)
-  finish-done (stopped m q) e h = let z : _≡_ {A = ℕ} 0 1 = cc in absurd (omega arith)
+  pub spoken-stop : {r : Refusal} → x ≡ Refused r → record { refusal = r; answer = Silent } ≡ speakOf n v
+  unfolding replied
+  spoken-stop g = sym (ap (replied (notice.factsIn 32 n) v) g) ∙ onward
 
-module _ (n v : List ℕ) (w : Noticed) (e : w ≡ notice.noticeOf n) (z : w .refusal .number ≡ 0) where
-  onward : {r : Reply} → r ≡ spoken (notice.facts (notice.factsIn 32 n)) (readVoice v) → r ≡ speakOf n v
-  onward g = g ∙ accepted n (notice.readFacts n) (readVoice v) (readRest-found 32 0 0 n) (sym (ap (λ (x : Noticed). x .refusal .number) e) ∙ z)
+  module _ {a : Answer} {end : ℕ} (g : x ≡ Said a end) {r : Refusal} where
+    pub spoken-tail : end < length v → r ≡ refusal.refused refusal.TAIL end → record { refusal = r; answer = Silent } ≡ speakOf n v
+    unfolding replied
+    spoken-tail l h = rw (← onward, g, lt-ltb end (length v) l, h)
 
-  module _ {x : Told} (f : x ≡ toldAt 16 (notice.factsIn 32 n) v 0) where
-    told : {y : Told} → x ≡ y → y ≡ toldOf (notice.factsIn 32 n) (policyAt 16 v 0)
-    told g = sym g ∙ f ∙ toldAt-tree (notice.factsIn 32 n) 16 v 0
-
-    pub spoken-stop : {number place : ℕ} {r : Reply} → x ≡ Stopped number place → r ≡ refuse number place → r ≡ speakOf n v
-    unfolding finish
-    spoken-stop g h = onward (h ∙ finish-stop (notice.factsIn 32 n) v (policyAt 16 v 0) (told g))
-
-    pub spoken-tail : {a : Answer} {end : ℕ} {r : Reply} → x ≡ Said a end → end < length v → r ≡ refuse TAIL end → r ≡ speakOf n v
-    unfolding finish
-    spoken-tail g l h = onward (h ∙ finish-tail (notice.factsIn 32 n) v (policyAt 16 v 0) (told g) l)
-
-    pub spoken-done : {a : Answer} {end : ℕ} → x ≡ Said a end → length v ≤ end → succeed a ≡ speakOf n v
-    unfolding finish
-    spoken-done g l = onward (finish-done (notice.factsIn 32 n) v (policyAt 16 v 0) (told g) l)
+    pub spoken-done : length v ≤ end → r ≡ refusal.none → record { refusal = r; answer = a } ≡ speakOf n v
+    unfolding replied
+    spoken-done l h = rw (← onward, g, le-ltb end (length v) l, h)

@@ -6,8 +6,8 @@ use borrow.Fn.PlainCycle.{Measures, is, falls, and}
 use Rattle.notices.proofs.seek.Reads as seek
 use Rattle.notices.proofs.seek.Kinds as seek-kinds
 use Rattle.notices.proofs.+seek.Lts-seek as seek-lts
-use Rattle.notices.proofs.four.Reads as four-reads
-use Rattle.notices.proofs.two.Reads as two-reads
+use Rattle.fields.proofs.four.Reads as four-reads
+use Rattle.fields.proofs.two.Reads as two-reads
 use Rattle.notices.proofs.+seek.{statement}
 use Rattle.notices.proofs.+seek.Tie.{close}
 

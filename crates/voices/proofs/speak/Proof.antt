@@ -20,13 +20,12 @@ speak-spec =
     tie.close
     (tie.spec
     (λ c κs. search needs)
-    (λ c κs. search needs)
     returns
     (λ c κs. search needs)
     (λ c. search needs)
     (λ c κs. search needs)
     returns-2
-    (λ c. search needs)
     (λ c κs. search needs)
+    (λ c. search needs)
     returns-3
     returns-4)

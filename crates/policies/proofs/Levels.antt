@@ -1,0 +1,239 @@
+-- One level of a voice, answered while it is read: what each way through the code gives is the answer of the tree read.
+use Prim.Native.Nat.{ℕ, suc, _+_, _-_, _≤_, _<_}
+use mathlib.Core.Path.{_≡_, refl, sym, ap, _∙_}
+use mathlib.Core.Bool.{Bool, cond, not as opposite}
+use mathlib.Core.List.{List}
+use native.Mathlib.Omega.{arith}
+use lib.Dec.{eqb}
+use lib.ListN.{length, getD}
+use borrow.Author.Tests.{le-leb, lt-leb}
+use Rattle.refusals.specs.declared.Refusal.{Refusal}
+use Rattle.refusals.specs.Meaning as refusal
+use Rattle.answers.specs.declared.Answer.{Answer}
+use Rattle.answers.specs.declared.Answer.the-variants.{Silent}
+use Rattle.answers.specs.declared.operators.One.{One}
+use Rattle.answers.specs.declared.operators.Two.{Two}
+use Rattle.answers.specs.Meaning.{number, applyOne, applyTwo}
+use Rattle.notices.specs.declared.Comparison.{Comparison}
+use Rattle.notices.specs.Meaning.{Fact}
+use Rattle.codes.specs.declared.PolicyKind.{PolicyKind}
+use Rattle.codes.specs.declared.PolicyKind.the-variants as P
+use Rattle.codes.specs.declared.TestKind.{TestKind}
+use Rattle.codes.specs.declared.TestKind.the-variants as T
+use Rattle.codes.specs.declared.Joint.{Joint}
+use Rattle.codes.specs.Meaning.{policyKind, testKind}
+use Rattle.policies.specs.declared.Told.{Told}
+use Rattle.policies.specs.declared.Told.the-variants as Told
+use Rattle.policies.specs.declared.Held.{Held}
+use Rattle.policies.specs.declared.Held.the-variants as Held
+use Rattle.policies.specs.Meaning.{Policy, Test, one, two, when, not, joint, answers, says, holds, compared, combine, Read, made}
+use Rattle.policies.specs.Meaning.{refused, andThen, comparisonAt, presentAt, policyBy, testBy, told, policyAt, testAt}
+use Rattle.policies.specs.Inside.{held}
+
+level : (left : ℕ) → (left ≡ 0 → ⊥) → left ≡ suc (left - 1)
+level left h = omega (arith, h)
+
+-- What is done with an answer that was told, and with a test that was held; a refusal stays.
+abbrev onSaid : {A : Type 0} → (Refusal → A) → (Answer → ℕ → A) → Told → A
+onSaid stop onward (Told.Said a next) = onward a next
+onSaid stop onward (Told.Refused r) = stop r
+
+abbrev onIs : {A : Type 0} → (Refusal → A) → (Bool → ℕ → A) → Held → A
+onIs stop onward (Held.Is b next) = onward b next
+onIs stop onward (Held.Refused r) = stop r
+
+module _ (fs : List Fact) where
+  -- What a tree answers hangs on what its operands answer alone.
+  told-one-of : (operator : One) (x : Read Policy) →
+      told fs (andThen x (λ p end. made (one operator p) end)) ≡
+      onSaid Told.Refused (λ a end. Told.Said (applyOne operator a) end) (told fs x)
+  unfolding says told held
+  told-one-of operator (made p end) = refl
+  told-one-of operator (refused r) = refl
+
+  told-two-of : (operator : Two) (x : Read Policy) (y : ℕ → Read Policy) →
+      told fs (andThen x (λ p next. andThen (y next) (λ q end. made (two operator p q) end))) ≡
+      onSaid Told.Refused (λ a next. onSaid Told.Refused (λ b end. Told.Said (applyTwo operator a b) end) (told fs (y next))) (told fs x)
+  unfolding says told held
+  told-two-of operator (made p next) y = go (y next)
+    where
+      go : (x : Read Policy) → told fs (andThen x (λ q end. made (two operator p q) end)) ≡
+          onSaid Told.Refused (λ b end. Told.Said (applyTwo operator (says fs (compared fs) p) b) end) (told fs x)
+      go (made q end) = refl
+      go (refused r) = refl
+  told-two-of operator (refused r) y = refl
+
+  told-when-of : (x : Read Test) (y : ℕ → Read Policy) →
+      told fs (andThen x (λ t next. andThen (y next) (λ p end. made (when t p) end))) ≡
+      onIs Told.Refused (λ b next. onSaid Told.Refused (λ a end. Told.Said (cond b a Silent) end) (told fs (y next))) (held fs x)
+  unfolding says told held
+  told-when-of (made t next) y = go (y next)
+    where
+      go : (x : Read Policy) → told fs (andThen x (λ p end. made (when t p) end)) ≡
+          onSaid Told.Refused (λ a end. Told.Said (cond (holds fs (compared fs) t) a Silent) end) (told fs x)
+      go (made p end) = refl
+      go (refused r) = refl
+  told-when-of (refused r) y = refl
+
+  held-not-of : (x : Read Test) →
+      held fs (andThen x (λ t end. made (not t) end)) ≡ onIs Held.Refused (λ b end. Held.Is (opposite b) end) (held fs x)
+  unfolding says told held
+  held-not-of (made t end) = refl
+  held-not-of (refused r) = refl
+
+  held-joint-of : (j : Joint) (x : Read Test) (y : ℕ → Read Test) →
+      held fs (andThen x (λ t next. andThen (y next) (λ u end. made (joint j t u) end))) ≡
+      onIs Held.Refused (λ b next. onIs Held.Refused (λ c end. Held.Is (combine j b c) end) (held fs (y next))) (held fs x)
+  unfolding says told held
+  held-joint-of j (made t next) y = go (y next)
+    where
+      go : (x : Read Test) → held fs (andThen x (λ u end. made (joint j t u) end)) ≡
+          onIs Held.Refused (λ c end. Held.Is (combine j (holds fs (compared fs) t) c) end) (held fs x)
+      go (made u end) = refl
+      go (refused r) = refl
+  held-joint-of j (refused r) y = refl
+
+  held-answers-of : (wanted : Answer) (x : Read Policy) →
+      held fs (andThen x (λ p end. made (answers wanted p) end)) ≡
+      onSaid Held.Refused (λ a end. Held.Is (eqb (number a) (number wanted)) end) (told fs x)
+  unfolding says told held
+  held-answers-of wanted (made p end) = refl
+  held-answers-of wanted (refused r) = refl
+
+module _ (fs : List Fact) (v : List ℕ) (at : ℕ) where
+  module _ {r : Refusal} (w : r ≡ refusal.refused refusal.NEST at) where
+    pub told-nest : {left : ℕ} → left ≡ 0 → Told.Refused r ≡ told fs (policyAt left v at)
+    unfolding policyAt told
+    told-nest z = rw (z, w)
+
+    pub held-nest : {left : ℕ} → left ≡ 0 → Held.Refused r ≡ held fs (testAt left v at)
+    unfolding policyAt held
+    held-nest z = rw (z, w)
+
+  module _ (left : ℕ) (some : left ≡ 0 → ⊥) where
+    module _ {r : Refusal} (w : r ≡ refusal.refused refusal.CUT at) (l : length v ≤ at) where
+      pub told-cut : Told.Refused r ≡ told fs (policyAt left v at)
+      unfolding policyAt told
+      told-cut = sym (ap (λ k. told fs (policyAt k v at)) (level left some) ∙ rw (le-leb (length v) at l, w))
+
+      pub held-cut : Held.Refused r ≡ held fs (testAt left v at)
+      unfolding policyAt held
+      held-cut = sym (ap (λ k. held fs (testAt k v at)) (level left some) ∙ rw (le-leb (length v) at l, w))
+
+    module _ (l : at < length v) {kind : PolicyKind} (k : kind ≡ policyKind (getD v at 0)) where
+      told-by : (kind′ : PolicyKind) → kind ≡ kind′ →
+          told fs (policyAt left v at) ≡ told fs (policyBy (λ i. policyAt (left - 1) v i) (λ i. testAt (left - 1) v i) at kind′)
+      unfolding policyAt
+      told-by kind′ e =
+          ap (λ k. told fs (policyAt k v at)) (level left some) ∙ rw (lt-leb (length v) at l)
+          (ap (λ x. told fs (policyBy (λ i. policyAt (left - 1) v i) (λ i. testAt (left - 1) v i) at x)) (sym k ∙ e))
+
+      pub told-constant : {a : Answer} → kind ≡ P.Constant a → Told.Said a (at + 1) ≡ told fs (policyAt left v at)
+      unfolding says told
+      told-constant {a} e = sym (told-by (P.Constant a) e)
+
+      pub told-foreign : {r : Refusal} → kind ≡ P.Foreign → r ≡ refusal.refused refusal.CODE at →
+          Told.Refused r ≡ told fs (policyAt left v at)
+      unfolding told
+      told-foreign e w = rw w (sym (told-by P.Foreign e))
+
+      module _ {operator : One} (e : kind ≡ P.One operator) {x : Told} (f : x ≡ told fs (policyAt (left - 1) v (at + 1))) where
+        one-by : told fs (policyAt left v at) ≡ onSaid Told.Refused (λ a end. Told.Said (applyOne operator a) end) x
+        one-by = rw f (told-by (P.One operator) e ∙ told-one-of fs operator (policyAt (left - 1) v (at + 1)))
+
+        pub told-one : {p r : Answer} {end : ℕ} → x ≡ Told.Said p end → r ≡ applyOne operator p →
+            Told.Said r end ≡ told fs (policyAt left v at)
+        told-one g w = rw (one-by, g, w)
+
+        pub told-one-stop : {r : Refusal} → x ≡ Told.Refused r → Told.Refused r ≡ told fs (policyAt left v at)
+        told-one-stop g = rw (one-by, g)
+
+      module _ {operator : Two} (e : kind ≡ P.Two operator) {x : Told} (f : x ≡ told fs (policyAt (left - 1) v (at + 1))) where
+        two-by : told fs (policyAt left v at) ≡
+            onSaid Told.Refused
+            (λ a next. onSaid Told.Refused (λ b end. Told.Said (applyTwo operator a b) end) (told fs (policyAt (left - 1) v next))) x
+        two-by = rw f (told-by (P.Two operator) e ∙ told-two-of fs operator (policyAt (left - 1) v (at + 1)) (λ i. policyAt (left - 1) v i))
+
+        pub told-two-first : {r : Refusal} → x ≡ Told.Refused r → Told.Refused r ≡ told fs (policyAt left v at)
+        told-two-first g = rw (two-by, g)
+
+        module _ {p : Answer} {next : ℕ} {y : Told} (g : x ≡ Told.Said p next) (h : y ≡ told fs (policyAt (left - 1) v next)) where
+          pub told-two : {q r : Answer} {end : ℕ} → y ≡ Told.Said q end → r ≡ applyTwo operator p q →
+              Told.Said r end ≡ told fs (policyAt left v at)
+          told-two i w = rw (two-by, g, ← h, i, w)
+
+          pub told-two-stop : {r : Refusal} → y ≡ Told.Refused r → Told.Refused r ≡ told fs (policyAt left v at)
+          told-two-stop i = rw (two-by, g, ← h, i)
+
+      module _ (e : kind ≡ P.When) {x : Held} (f : x ≡ held fs (testAt (left - 1) v (at + 1))) where
+        when-by : told fs (policyAt left v at) ≡
+            onIs Told.Refused
+            (λ b next. onSaid Told.Refused (λ a end. Told.Said (cond b a Silent) end) (told fs (policyAt (left - 1) v next))) x
+        when-by = rw f (told-by P.When e ∙ told-when-of fs (testAt (left - 1) v (at + 1)) (λ i. policyAt (left - 1) v i))
+
+        pub told-when-first : {r : Refusal} → x ≡ Held.Refused r → Told.Refused r ≡ told fs (policyAt left v at)
+        told-when-first g = rw (when-by, g)
+
+        module _ {t : Bool} {next : ℕ} {y : Told} (g : x ≡ Held.Is t next) (h : y ≡ told fs (policyAt (left - 1) v next)) where
+          pub told-when : {p r : Answer} {end : ℕ} → y ≡ Told.Said p end → r ≡ cond t p Silent →
+              Told.Said r end ≡ told fs (policyAt left v at)
+          told-when i w = rw (when-by, g, ← h, i, w)
+
+          pub told-when-stop : {r : Refusal} → y ≡ Told.Refused r → Told.Refused r ≡ told fs (policyAt left v at)
+          told-when-stop i = rw (when-by, g, ← h, i)
+
+    module _ (l : at < length v) {kind : TestKind} (k : kind ≡ testKind (getD v at 0)) where
+      held-by : (kind′ : TestKind) → kind ≡ kind′ →
+          held fs (testAt left v at) ≡ held fs (testBy (λ i. policyAt (left - 1) v i) (λ i. testAt (left - 1) v i) v at kind′)
+      unfolding policyAt
+      held-by kind′ e =
+          ap (λ k. held fs (testAt k v at)) (level left some) ∙ rw (lt-leb (length v) at l)
+          (ap (λ x. held fs (testBy (λ i. policyAt (left - 1) v i) (λ i. testAt (left - 1) v i) v at x)) (sym k ∙ e))
+
+      pub held-foreign : {r : Refusal} → kind ≡ T.Foreign → r ≡ refusal.refused refusal.CODE at →
+          Held.Refused r ≡ held fs (testAt left v at)
+      unfolding held
+      held-foreign e w = rw w (sym (held-by T.Foreign e))
+
+      pub held-comparison : {c : Comparison} {r : Held} → kind ≡ T.Comparison c → r ≡ held fs (comparisonAt v at c) →
+          r ≡ held fs (testAt left v at)
+      held-comparison {c} e w = w ∙ sym (held-by (T.Comparison c) e)
+
+      pub held-present : {r : Held} → kind ≡ T.Present → r ≡ held fs (presentAt v at) → r ≡ held fs (testAt left v at)
+      held-present e w = w ∙ sym (held-by T.Present e)
+
+      module _ (e : kind ≡ T.Not) {x : Held} (f : x ≡ held fs (testAt (left - 1) v (at + 1))) where
+        not-by : held fs (testAt left v at) ≡ onIs Held.Refused (λ b end. Held.Is (opposite b) end) x
+        not-by = rw f (held-by T.Not e ∙ held-not-of fs (testAt (left - 1) v (at + 1)))
+
+        pub held-not : {t r : Bool} {end : ℕ} → x ≡ Held.Is t end → r ≡ opposite t → Held.Is r end ≡ held fs (testAt left v at)
+        held-not g w = rw (not-by, g, w)
+
+        pub held-not-stop : {r : Refusal} → x ≡ Held.Refused r → Held.Refused r ≡ held fs (testAt left v at)
+        held-not-stop g = rw (not-by, g)
+
+      module _ {j : Joint} (e : kind ≡ T.Joint j) {x : Held} (f : x ≡ held fs (testAt (left - 1) v (at + 1))) where
+        joint-by : held fs (testAt left v at) ≡
+            onIs Held.Refused (λ b next. onIs Held.Refused (λ c end. Held.Is (combine j b c) end) (held fs (testAt (left - 1) v next))) x
+        joint-by = rw f (held-by (T.Joint j) e ∙ held-joint-of fs j (testAt (left - 1) v (at + 1)) (λ i. testAt (left - 1) v i))
+
+        pub held-joint-first : {r : Refusal} → x ≡ Held.Refused r → Held.Refused r ≡ held fs (testAt left v at)
+        held-joint-first g = rw (joint-by, g)
+
+        module _ {t : Bool} {next : ℕ} {y : Held} (g : x ≡ Held.Is t next) (h : y ≡ held fs (testAt (left - 1) v next)) where
+          pub held-joint : {u r : Bool} {end : ℕ} → y ≡ Held.Is u end → r ≡ combine j t u → Held.Is r end ≡ held fs (testAt left v at)
+          held-joint i w = rw (joint-by, g, ← h, i, w)
+
+          pub held-joint-stop : {r : Refusal} → y ≡ Held.Refused r → Held.Refused r ≡ held fs (testAt left v at)
+          held-joint-stop i = rw (joint-by, g, ← h, i)
+
+      module _ {wanted : Answer} (e : kind ≡ T.Answers wanted) {x : Told} (f : x ≡ told fs (policyAt (left - 1) v (at + 1))) where
+        answers-by : held fs (testAt left v at) ≡ onSaid Held.Refused (λ a end. Held.Is (eqb (number a) (number wanted)) end) x
+        answers-by = rw f (held-by (T.Answers wanted) e ∙ held-answers-of fs wanted (policyAt (left - 1) v (at + 1)))
+
+        pub held-answers : {p : Answer} {r : Bool} {end : ℕ} → x ≡ Told.Said p end → r ≡ eqb (number p) (number wanted) →
+            Held.Is r end ≡ held fs (testAt left v at)
+        held-answers g w = rw (answers-by, g, w)
+
+        pub held-answers-stop : {r : Refusal} → x ≡ Told.Refused r → Held.Refused r ≡ held fs (testAt left v at)
+        held-answers-stop g = rw (answers-by, g)
