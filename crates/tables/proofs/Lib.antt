@@ -1,7 +1,5 @@
-pub mod Reading
-pub mod Parts
-pub mod Pairwise
+pub mod FirstField
+pub mod RowFaults
+pub mod RowsRead
+pub mod ReadReturns
 pub mod Accepted
-pub mod Matching
-pub mod Overlaps
-pub mod Writing

@@ -1,5 +1,5 @@
-use Rattle.tables.proofs.Pairwise.{readOf-fields, readOf-overlap, readOf-accepts}
 use borrow.Author.Needs.{needs}
+use Rattle.tables.proofs.ReadReturns.{readOf-fields, readOf-overlap, readOf-accepts}
 use Rattle.tables.proofs.read_table.Statement.{statement}
 use Rattle.tables.proofs.read_table.Tie as tie
 
@@ -10,7 +10,7 @@ returns-2 : tie.Need-returns-2
 returns-2 c = search (needs, readOf-overlap)
 
 returns-3 : tie.Need-returns-3
-returns-3 c = readOf-accepts _ (c .before .before .before .before .before .before .read-fields .ensures) (c .before .before .before .if1 .left) (c .before .before .first-overlap .ensures) (c .if2 .left)
+returns-3 c = search (needs, readOf-accepts)
 
 pub read-table-spec : {M : Type 1} → statement M
 read-table-spec =
@@ -19,6 +19,8 @@ read-table-spec =
     (λ c κs. search needs)
     (λ c κs. search needs)
     returns
+    (λ c κs. search needs)
+    (λ c κs. search needs)
     (λ c κs. search needs)
     (λ c κs. search needs)
     returns-2

@@ -1,0 +1,68 @@
+-- What fields are refused by has a number below OVERLAP.
+use Prim.Native.Nat.{ℕ, zero, suc, _+_, _-_, _≤_}
+use mathlib.Core.Bool.{Bool, true, false, cond}
+use mathlib.Core.List.{List}
+use lib.Dec.{ltb, eqb}
+use lib.ListN.{length, drop, getD}
+use native.Mathlib.Omega.{arith}
+use Rattle.refusals.specs.Meaning.{none, refused, after, SHORT, START, TAG, LEN, VALUE, ROWS}
+use Rattle.refusals.specs.declared.Refusal.{Refusal}
+use Rattle.fields.specs.Meaning.{shortHeader, shortValue, firstAbove}
+use Rattle.situations.specs.Meaning.{outside}
+use Rattle.rows.specs.Meaning.{rowWidth}
+use Rattle.tables.specs.declared.TableRead.{TableRead}
+use Rattle.tables.specs.Meaning.{columnsOf, rowsStart, rowsPart, otherTag, rowTooMany, otherLength, cellsAt, valueFault, columnsFault, rowFault, refuseTable, acceptTable, rowsFrom, fieldsOf}
+
+record Small (r : Refusal) : Type 0 where
+  below : r .number ≤ 6
+
+small : (b : Bool) (k p : ℕ) {r : Refusal} → k ≤ 6 → Small r → Small (cond b (refused k p) r)
+small true k p l h = record { below = l }
+small false k p l h = h
+
+small-none : Small none
+small-none = record { below = omega arith }
+
+columnsFault-small : (t : List ℕ) → Small (columnsFault t)
+unfolding columnsFault
+columnsFault-small t =
+    small (eqb (length t) 0) START 0 (omega arith)
+    (small (shortHeader t) SHORT 0 (omega arith)
+    (small (otherTag 1 t) START 0 (omega arith)
+    (small (otherLength 1 t) LEN 0 (omega arith)
+    (small (shortValue 1 t) SHORT 0 (omega arith)
+    (small (outside (columnsOf t)) VALUE 3 (omega arith) small-none)))))
+
+rowFault-small : (left n at : ℕ) (rows : List ℕ) → Small (rowFault left n at rows)
+unfolding rowFault valueFault
+rowFault-small left n at rows =
+    let k = firstAbove 4 (cellsAt n rows) in
+    small (shortHeader rows) SHORT at (omega arith)
+    (small (otherTag 2 rows) TAG at (omega arith)
+    (small (rowTooMany left) ROWS at (omega arith)
+    (small (otherLength (n + 1) rows) LEN at (omega arith)
+    (small (shortValue (n + 1) rows) SHORT at (omega arith)
+    (small (ltb k n) VALUE (at + (3 + k)) (omega arith)
+    (small (ltb 3 (getD rows (3 + n) 0)) VALUE (at + (3 + n)) (omega arith) small-none))))))
+
+small-read : (b : Bool) (x y : TableRead) → Small (x .refusal) → Small (y .refusal) → Small (cond b x y .refusal)
+small-read true x y h k = h
+small-read false x y h k = k
+
+rowsFrom-small : (left n at : ℕ) (rows : List ℕ) → Small (rowsFrom left n at rows .refusal)
+unfolding rowsFrom
+rowsFrom-small zero n at rows =
+    small-read (eqb (length rows) 0) (acceptTable n 64) (refuseTable (rowFault zero n at rows)) small-none (rowFault-small zero n at rows)
+rowsFrom-small (suc left) n at rows =
+    let next = rowsFrom left n (at + rowWidth n) (drop (rowWidth n) rows) in
+    let fault = rowFault (suc left) n at rows in
+    small-read (eqb (length rows) 0) (acceptTable n (64 - suc left)) (after fault refuseTable next) small-none
+    (small-read (eqb (fault .number) 0) next (refuseTable fault) (rowsFrom-small left n (at + rowWidth n) (drop (rowWidth n) rows))
+    (rowFault-small (suc left) n at rows))
+
+pub fieldsOf-small : (t : List ℕ) → fieldsOf t .refusal .number ≤ 6
+unfolding fieldsOf
+fieldsOf-small t =
+    small-read (eqb (columnsFault t .number) 0) (rowsFrom 64 (columnsOf t) rowsStart (rowsPart t)) (refuseTable (columnsFault t))
+    (rowsFrom-small 64 (columnsOf t) rowsStart (rowsPart t)) (columnsFault-small t)
+    .below

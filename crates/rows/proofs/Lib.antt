@@ -1,0 +1,4 @@
+pub mod RowBytes
+pub mod Comparison
+pub mod FirstPair
+pub mod RowLists

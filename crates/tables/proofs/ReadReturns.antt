@@ -1,0 +1,47 @@
+-- The ways out of reading all fields, and of reading a table.
+use Prim.Native.Nat.{ℕ}
+use mathlib.Core.Path.{_≡_}
+use mathlib.Core.List.{List}
+use borrow.Author.Tests.{eq-eqb, ne-eqb}
+use Rattle.refusals.specs.declared.Refusal.{Refusal}
+use Rattle.rows.specs.Meaning.{firstOverlap}
+use Rattle.tables.specs.declared.TableRead.{TableRead}
+use Rattle.tables.specs.Meaning.{columnsOf, rowsStart, rowsPart, columnsFault, refuseTable, rowsFrom, fieldsOf, readOf}
+
+-- the first field, then the rows
+module _ (t : List ℕ) {r : Refusal} (e : r ≡ columnsFault t) {q : TableRead} where
+  pub fieldsOf-stop : (r .number ≡ 0 → ⊥) → q ≡ refuseTable r → q ≡ fieldsOf t
+  unfolding fieldsOf
+  fieldsOf-stop h k = rw (← e, ne-eqb (r .number) 0 h) k
+
+  pub fieldsOf-rows :
+      r .number ≡ 0 →
+      (n : ℕ) (rows : List ℕ) →
+      n ≡ columnsOf t →
+      rows ≡ rowsPart t →
+      q ≡ rowsFrom 64 n rowsStart rows →
+      q ≡ fieldsOf t
+  unfolding fieldsOf
+  fieldsOf-rows h n rows m p k = rw (← e, eq-eqb (r .number) 0 h, ← m, ← p) k
+
+-- the fields, then the search for two rows that disagree
+module _ (t : List ℕ) {f : TableRead} (e : f ≡ fieldsOf t) where
+  pub readOf-fields : {q : TableRead} → (f .refusal .number ≡ 0 → ⊥) → q ≡ refuseTable (f .refusal) → q ≡ readOf t
+  unfolding readOf
+  readOf-fields h k = rw (← e, ne-eqb (f .refusal .number) 0 h) k
+
+  module _
+      (h : f .refusal .number ≡ 0)
+      (n : ℕ)
+      (rows : List ℕ)
+      (m : n ≡ columnsOf t)
+      (p : rows ≡ rowsPart t)
+      {o : Refusal}
+      (g : o ≡ firstOverlap n rows) where
+    pub readOf-overlap : {q : TableRead} → (o .number ≡ 0 → ⊥) → q ≡ refuseTable o → q ≡ readOf t
+    unfolding readOf
+    readOf-overlap i k = rw (← e, eq-eqb (f .refusal .number) 0 h, ← m, ← p, ← g, ne-eqb (o .number) 0 i) k
+
+    pub readOf-accepts : o .number ≡ 0 → f ≡ readOf t
+    unfolding readOf
+    readOf-accepts i = rw (← e, eq-eqb (f .refusal .number) 0 h, ← m, ← p, ← g, eq-eqb (o .number) 0 i)
