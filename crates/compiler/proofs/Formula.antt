@@ -2,14 +2,19 @@
 use Prim.Native.Nat.{ℕ, suc, _+_, _-_, _%_}
 use mathlib.Core.Path.{_≡_, refl, ap, ap₂, _∙_}
 use mathlib.Core.List.{List, [], _∷_, _++_, map}
-use lib.ListN.{length, length-append}
+use lib.ListN.{length, length-append, length-replicate}
 use native.Mathlib.Omega.{arith}
 use Rattle.answers.specs.Meaning.{number}
 use Rattle.answers.specs.declared.Answer.{Answer}
 use Rattle.answers.specs.declared.Answer.the-variants.{Silent, Bury, Keep, Clash}
-use Rattle.tables.specs.Meaning.{Cell, is, any, Row}
-use Rattle.compiler.specs.Meaning.{turned, selector, selectors, followed, together, rowNodes, rowsLeft, tableNodes, selectorSize, selectorSizes, total, sizeOf, rowSize, tableSize}
-use Rattle.compiler.proofs.Stores.{turned-length}
+use Rattle.rows.specs.Meaning.{Cell, is, any, Row}
+use Rattle.tables.specs.Meaning.{Table}
+use Rattle.compiler.specs.Meaning.{turned, selector, selectors, followed, together, rowNodes, rowsLeft, tableNodes}
+use Rattle.compiler.specs.Meaning.{selectorSize, selectorSizes, total, sizeOf, rowSize, tableSize}
+
+pub turned-size : (column turns : ℕ) → length (turned column turns) ≡ suc turns
+unfolding turned
+turned-size column turns = ap suc (length-replicate {A = ℕ} turns 5)
 
 three : (xs ys zs : List ℕ) → length (xs ++ ys ++ zs) ≡ length xs + length ys + length zs
 three xs ys zs = simp length-append
@@ -19,13 +24,13 @@ unfolding selector selectorSize
 selector-size column a Silent = refl
 selector-size column a Keep =
     three (turned column (3 - number a)) (turned column ((3 - number a + 3) % 4)) (6 ∷ [])
-    ∙ (rw (turned-length column (3 - number a), turned-length column ((3 - number a + 3) % 4)) (omega arith))
+    ∙ (rw (turned-size column (3 - number a), turned-size column ((3 - number a + 3) % 4)) (omega arith))
 selector-size column a Bury =
     three (turned column (3 - number a)) (turned column ((3 - number a + 3) % 4)) (6 ∷ 4 ∷ [])
-    ∙ (rw (turned-length column (3 - number a), turned-length column ((3 - number a + 3) % 4)) (omega arith))
+    ∙ (rw (turned-size column (3 - number a), turned-size column ((3 - number a + 3) % 4)) (omega arith))
 selector-size column a Clash =
     three (turned column (3 - number a)) (turned column (3 - number a)) (4 ∷ 6 ∷ [])
-    ∙ (rw (turned-length column (3 - number a)) (omega arith))
+    ∙ (rw (turned-size column (3 - number a)) (omega arith))
 
 pub selectors-size : (column : ℕ) (j : Answer) (cells : List Cell) → map length (selectors column j cells) ≡ selectorSizes j cells
 unfolding selectors selectorSizes
@@ -33,7 +38,9 @@ selectors-size column j [] = refl
 selectors-size column j (is a ∷ cells) = ap₂ (λ x xs. x ∷ xs) (selector-size column a j) (selectors-size (suc column) j cells)
 selectors-size column j (any ∷ cells) = selectors-size (suc column) j cells
 
-followed-size : (operator : ℕ) (parts : List (List ℕ)) → length (followed operator parts) ≡ total (map length parts) + length (map (length {A = ℕ}) parts)
+followed-size :
+    (operator : ℕ) (parts : List (List ℕ)) →
+    length (followed operator parts) ≡ total (map length parts) + length (map (length {A = ℕ}) parts)
 unfolding followed total
 followed-size operator [] = refl
 followed-size operator (part ∷ parts) =
@@ -55,6 +62,6 @@ rows-size : (rows : List Row) → map length (map rowNodes rows) ≡ map rowSize
 rows-size [] = refl
 rows-size (r ∷ rows) = ap₂ (λ x xs. x ∷ xs) (row-size r) (rows-size rows)
 
-pub table-size : (rows : List Row) → length (tableNodes rows) ≡ tableSize rows
+pub table-size : (t : Table) → length (tableNodes t) ≡ tableSize t
 unfolding tableNodes tableSize
-table-size rows = together-size 7 0 (map rowNodes (rowsLeft rows)) ∙ ap sizeOf (rows-size (rowsLeft rows))
+table-size t = together-size 7 0 (map rowNodes (rowsLeft (t .rows))) ∙ ap sizeOf (rows-size (rowsLeft (t .rows)))

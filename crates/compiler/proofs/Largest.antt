@@ -6,9 +6,14 @@ use lib.ListN.{length, length-map}
 use native.Mathlib.Nat.{mul-le-mul-left, mul-suc}
 use native.Mathlib.Omega.{arith}
 use Rattle.answers.specs.declared.Answer.{Answer}
-use Rattle.tables.specs.Meaning.{Cell, is, any, Row, row}
-use Rattle.compiler.specs.Meaning.{isSilent, rowsLeft, selectorSizes, total, sizeOf, rowSize, tableSize}
-use Rattle.compiler.proofs.Counted.{selectorSize-small}
+use Rattle.answers.proofs.Every.{all2}
+use Rattle.rows.specs.Meaning.{Cell, is, any, Row, row}
+use Rattle.tables.specs.Meaning.{Table}
+use Rattle.compiler.specs.Meaning.{isSilent, rowsLeft, selectorSize, selectorSizes, total, sizeOf, rowSize, tableSize}
+
+selectorSize-most : (a j : Answer) → selectorSize a j ≤ 10
+unfolding selectorSize
+selectorSize-most = all2 _ (search arith)
 
 -- each of them is at most m
 abbrev Most : ℕ → List ℕ → Type 0
@@ -31,7 +36,7 @@ sizeOf-most m n (x ∷ xs) h l k j = let all = total-most m (x ∷ xs) h in omeg
 selectorSizes-most : (j : Answer) (cells : List Cell) → Most 10 (selectorSizes j cells)
 unfolding selectorSizes
 selectorSizes-most j [] = tt
-selectorSizes-most j (is a ∷ cells) = (selectorSize-small a j, selectorSizes-most j cells)
+selectorSizes-most j (is a ∷ cells) = (selectorSize-most a j, selectorSizes-most j cells)
 selectorSizes-most j (any ∷ cells) = selectorSizes-most j cells
 
 selectorSizes-few : (j : Answer) (cells : List Cell) → length (selectorSizes j cells) ≤ length cells
@@ -44,7 +49,8 @@ row-most : (r : Row) → length (r .cells) ≤ 6 → rowSize r ≤ 65
 unfolding rowSize
 row-most r l =
     let few = selectorSizes-few (r .outcome) (r .cells) in
-    let most = sizeOf-most 10 6 (selectorSizes (r .outcome) (r .cells)) (selectorSizes-most (r .outcome) (r .cells)) (omega arith) (omega arith) (omega arith) in
+    let sizes : List ℕ = selectorSizes (r .outcome) (r .cells) in
+    let most = sizeOf-most 10 6 sizes (selectorSizes-most (r .outcome) (r .cells)) (omega arith) (omega arith) (omega arith) in
     omega arith
 
 rows-most : (rows : List Row) → ((i : ℕ) → i < length rows → length (row rows i .cells) ≤ 6) → Most 65 (map rowSize (rowsLeft rows))
@@ -66,13 +72,14 @@ rowsLeft-few (r ∷ rows) = go (isSilent (r .outcome)) (rowsLeft-few rows)
     go false rest = omega arith
 
 pub table-most :
-    (rows : List Row) →
-    length rows ≤ 64 →
-    ((i : ℕ) → i < length rows → length (row rows i .cells) ≤ 6) →
-    tableSize rows ≤ 4223
+    (t : Table) →
+    length (t .rows) ≤ 64 →
+    ((i : ℕ) → i < length (t .rows) → length (row (t .rows) i .cells) ≤ 6) →
+    tableSize t ≤ 4223
 unfolding tableSize
-table-most rows l w =
-    let few = rowsLeft-few rows in
-    let long = length-map (rowsLeft rows) rowSize in
-    let most = sizeOf-most 65 64 (map rowSize (rowsLeft rows)) (rows-most rows w) (omega arith) (omega arith) (omega arith) in
+table-most t l w =
+    let left : List Row = rowsLeft (t .rows) in
+    let few = rowsLeft-few (t .rows) in
+    let long = length-map left rowSize in
+    let most = sizeOf-most 65 64 (map rowSize left) (rows-most (t .rows) w) (omega arith) (omega arith) (omega arith) in
     omega arith

@@ -1,7 +1,7 @@
-pub mod Counted
-pub mod Stores
-pub mod Selecting
 pub mod Formula
-pub mod Replying
 pub mod Largest
-pub mod Replies
+pub mod Selectors
+pub mod Parts
+pub mod Rows
+pub mod Tables
+pub mod CompileReturns

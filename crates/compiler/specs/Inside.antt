@@ -1,15 +1,25 @@
 -- What the private functions and their loops say among themselves. Nothing here has to be believed: the laws tie it to the meaning.
-use Prim.Native.Nat.{ℕ, _+_, _-_, _*_, _%_, _≤_}
+use Prim.Native.Nat.{ℕ, _+_, _-_, _%_, _≤_}
 use mathlib.Core.Path.{_≡_}
-use mathlib.Core.Bool.{Bool, false, cond}
+use mathlib.Core.Bool.{Bool, cond}
 use mathlib.Core.List.{List, [], _∷_, _++_, map}
-use lib.ListN.{length, drop, replicate}
-use Rattle.lent.specs.Meaning.{Writing}
+use lib.Dec.{eqb}
+use lib.ListN.{length, drop}
+use Rattle.lent.specs.Inside.{Writing}
 use Rattle.answers.specs.Meaning.{number}
 use Rattle.answers.specs.declared.Answer.{Answer}
 use Rattle.answers.specs.declared.Answer.the-variants.{Silent, Bury, Keep, Clash}
-use Rattle.tables.specs.Meaning.{Cell, is, any, Row, cellOf, rowOf, rowsOf}
-use Rattle.compiler.specs.Meaning.{selector, selectors, followed, together, rowNodes, rowsLeft, isSilent, selectorSize, selectorSizes, total, sizeOf, rowSize, tableSize, tableNodes}
+use Rattle.rows.specs.Meaning.{Cell, is, any, Row, cellOf, rowsOf}
+use Rattle.tables.specs.Meaning.{Table}
+use Rattle.compiler.specs.Meaning.{selector, selectors, followed, together, rowNodes, rowsLeft, isSilent, tableNodes}
+
+-- no place passes it, so places can be added to
+abbrev pub limit : ℕ
+limit = 4294967295
+
+-- an outcome that is not silent
+abbrev pub Loud : Answer → Type 0
+Loud j = number j ≡ 0 → ⊥
 
 -- the parts of a selector: the turns of its second column, and what it ends with
 abbrev pub secondTurns : ℕ → Answer → ℕ
@@ -24,69 +34,43 @@ ending Keep = 6 ∷ []
 ending Bury = 6 ∷ 4 ∷ []
 ending Clash = 4 ∷ 6 ∷ []
 
--- a row of cells with an outcome
-abbrev pub rowNodesOf : Answer → List Cell → List ℕ
-rowNodesOf j cells = rowNodes (record { cells = cells; outcome = j })
+-- a row of cells with an outcome, and the table of so many rows of a part
+abbrev pub rowWith : List ℕ → Answer → Row
+rowWith cells j = record { cells = map cellOf cells; outcome = j }
 
-abbrev pub rowSizeOf : Answer → List Cell → ℕ
-rowSizeOf j cells = rowSize (record { cells = cells; outcome = j })
+abbrev pub tableWith : List ℕ → ℕ → ℕ → Table
+tableWith rows n m = record { columns = n; rows = rowsOf n rows 0 m }
 
--- what one cell adds, and whether the first selector still has to come behind it
+-- what stands behind a part: its operator, unless the part is the first
+abbrev pub behind : ℕ → Bool → List ℕ
+behind operator first = cond first [] (operator ∷ [])
+
+abbrev pub partNodes : ℕ → Bool → List ℕ → List ℕ
+partNodes operator first part = part ++ behind operator first
+
+-- what one cell adds, and one row
 abbrev pub cellNodes : Bool → ℕ → Cell → Answer → List ℕ
-cellNodes first column (is a) j = selector column a j ++ cond first [] (6 ∷ [])
+cellNodes first column (is a) j = partNodes 6 first (selector column a j)
 cellNodes first column any j = []
 
-abbrev pub cellSize : Bool → Cell → Answer → ℕ
-cellSize first (is a) j = selectorSize a j + cond first 0 1
-cellSize first any j = 0
+abbrev pub rowStep : Bool → Row → List ℕ
+rowStep first r = cond (isSilent (r .outcome)) [] (partNodes 7 first (rowNodes r))
 
-abbrev pub stillFirst : Bool → Cell → Bool
-stillFirst first (is a) = false
-stillFirst first any = first
+-- what the parts from one on add, where the first one may still have to come
+unfoldable pub partsRest : ℕ → ℕ → Bool → List (List ℕ) → List ℕ
+partsRest operator constant first parts = cond first (together operator constant parts) (followed operator parts)
 
--- what the cells from a column on add
-unfoldable pub cellsRest : Bool → ℕ → Answer → List Cell → List ℕ
-cellsRest first column j cells = cond first (together 6 (number j) (selectors column j cells)) (followed 6 (selectors column j cells))
-
-unfoldable pub sizesRest : Bool → List ℕ → ℕ
-sizesRest first sizes = cond first (sizeOf sizes) (total sizes + length sizes)
-
--- the same of rows
-abbrev pub rowStep : Bool → List ℕ → List ℕ
-rowStep first b = cond (isSilent (rowOf b .outcome)) [] (rowNodes (rowOf b) ++ cond first [] (7 ∷ []))
-
-abbrev pub rowStepSize : Bool → List ℕ → ℕ
-rowStepSize first b = cond (isSilent (rowOf b .outcome)) 0 (rowSize (rowOf b) + cond first 0 1)
-
-abbrev pub stillFirstRow : Bool → List ℕ → Bool
-stillFirstRow first b = cond (isSilent (rowOf b .outcome)) first false
-
-unfoldable pub rowsRest : Bool → List Row → List ℕ
-rowsRest first rows = cond first (together 7 0 (map rowNodes (rowsLeft rows))) (followed 7 (map rowNodes (rowsLeft rows)))
-
--- i cells of a row are counted
-pub record CountingCells (j : Answer) (cells : List ℕ) (size : ℕ) (first : Bool) (i : ℕ) : Type 0 where
-  pub inside : i ≤ length cells
-  pub small : size ≤ 11 * i
-  pub ends : size + sizesRest first (selectorSizes j (map cellOf (drop i cells))) ≡ rowSizeOf j (map cellOf cells)
-
--- i rows of a table are counted
-pub record CountingRows (t : List ℕ) (n m size : ℕ) (first : Bool) (i : ℕ) : Type 0 where
-  pub inside : i ≤ m
-  pub small : size ≤ 68 * i
-  pub ends : size + sizesRest first (map rowSize (rowsLeft (rowsOf t n i (m - i)))) ≡ tableSize (rowsOf t n 0 m)
-
--- i turns are written
-pub record WritingTurns (turns : ℕ) (old : List ℕ) (at : ℕ) (new : List ℕ) (next i : ℕ) : Type 0 where
-  pub inside : i ≤ turns
-  pub left : Writing old at (replicate turns 5) new next (replicate (turns - i) 5)
+-- parts are written from a place on, and these are left: none is written yet exactly where the next place is the first
+pub record WritingParts (operator none : ℕ) (whole old : List ℕ) (at : ℕ) (new : List ℕ) (next : ℕ) (parts : List (List ℕ)) : Type 0 where
+  pub past : at ≤ next
+  pub left : Writing old at whole new next (partsRest operator none (eqb next at) parts)
 
 -- i cells of a row are written
-pub record WritingCells (j : Answer) (cells old : List ℕ) (at : ℕ) (new : List ℕ) (next : ℕ) (first : Bool) (i : ℕ) : Type 0 where
+pub record WritingCells (j : Answer) (cells old : List ℕ) (at : ℕ) (new : List ℕ) (next i : ℕ) : Type 0 where
   pub inside : i ≤ length cells
-  pub left : Writing old at (rowNodesOf j (map cellOf cells)) new next (cellsRest first i j (map cellOf (drop i cells)))
+  pub left : WritingParts 6 (number j) (rowNodes (rowWith cells j)) old at new next (selectors i j (map cellOf (drop i cells)))
 
 -- i rows of a table are written
-pub record WritingRows (t : List ℕ) (n m : ℕ) (old new : List ℕ) (next : ℕ) (first : Bool) (i : ℕ) : Type 0 where
+pub record WritingRows (rows : List ℕ) (n m : ℕ) (old new : List ℕ) (next i : ℕ) : Type 0 where
   pub inside : i ≤ m
-  pub left : Writing old 0 (tableNodes (rowsOf t n 0 m)) new next (rowsRest first (rowsOf t n i (m - i)))
+  pub left : WritingParts 7 0 (tableNodes (tableWith rows n m)) old 0 new next (map rowNodes (rowsLeft (rowsOf n rows i (m - i))))

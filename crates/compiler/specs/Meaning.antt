@@ -9,7 +9,8 @@ use Rattle.refusals.specs.declared.Refusal.{Refusal}
 use Rattle.answers.specs.Meaning.{number}
 use Rattle.answers.specs.declared.Answer.{Answer}
 use Rattle.answers.specs.declared.Answer.the-variants.{Silent, Bury, Keep, Clash}
-use Rattle.tables.specs.Meaning.{Cell, is, any, Row, readOf, tableOf}
+use Rattle.rows.specs.Meaning.{Cell, is, any, Row}
+use Rattle.tables.specs.Meaning.{Table, readOf, tableOf}
 use Rattle.compiler.specs.declared.Compiled.{Compiled}
 
 -- "Nodes 0 to 3: that constant. 4 negate, 5 turn, 6 meet, 7 join. 16 to 21: column 0 to 5."
@@ -55,8 +56,8 @@ rowsLeft [] = []
 rowsLeft (r ∷ rows) = cond (isSilent (r .outcome)) (rowsLeft rows) (r ∷ rowsLeft rows)
 
 -- "The table is its first row, then each further row followed by join; with no row left it is the constant 0."
-unfoldable pub tableNodes : List Row → List ℕ
-tableNodes rows = together 7 0 (map rowNodes (rowsLeft rows))
+unfoldable pub tableNodes : Table → List ℕ
+tableNodes t = together 7 0 (map rowNodes (rowsLeft (t .rows)))
 
 -- "Sizes: keep 1 + k + 1 + (k+3) mod 4 + 1; bury one more; clash 4 + 2k."
 unfoldable pub selectorSize : Answer → Answer → ℕ
@@ -83,8 +84,8 @@ sizeOf (x ∷ xs) = total (x ∷ xs) + length xs
 unfoldable pub rowSize : Row → ℕ
 rowSize r = sizeOf (selectorSizes (r .outcome) (r .cells))
 
-unfoldable pub tableSize : List Row → ℕ
-tableSize rows = sizeOf (map rowSize (rowsLeft rows))
+unfoldable pub tableSize : Table → ℕ
+tableSize t = sizeOf (map rowSize (rowsLeft (t .rows)))
 
 -- "A refusal returns .. any other result number 0."
 abbrev pub refuseCompiled : Refusal → Compiled
@@ -94,12 +95,12 @@ refuseCompiled r = record { refusal = r; columns = 0; rows = 0; nodes = 0 }
 unfoldable pub compileOf : List ℕ → ℕ → Compiled
 compileOf t room =
     after (readOf t .refusal) refuseCompiled
-    (cond (ltb room (tableSize (tableOf t .rows))) (refuseCompiled (refused ROOM (tableSize (tableOf t .rows))))
-    (record { refusal = none; columns = readOf t .columns; rows = readOf t .rows; nodes = tableSize (tableOf t .rows) }))
+    (cond (ltb room (tableSize (tableOf t))) (refuseCompiled (refused ROOM (tableSize (tableOf t))))
+    (record { refusal = none; columns = readOf t .columns; rows = readOf t .rows; nodes = tableSize (tableOf t) }))
 
 -- "On acceptance the first bytes are the nodes and the rest are unchanged." A refusal "changes no lent byte".
 unfoldable pub writtenOf : List ℕ → List ℕ → List ℕ
 writtenOf t lent =
     cond (eqb (compileOf t (length lent) .refusal .number) 0)
-    (tableNodes (tableOf t .rows) ++ drop (tableSize (tableOf t .rows)) lent)
+    (tableNodes (tableOf t) ++ drop (tableSize (tableOf t)) lent)
     lent

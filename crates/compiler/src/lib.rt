@@ -7,11 +7,12 @@ ghost use mathlib.Core.Path.{_≡_};
 ghost use lib.ListN.{length};
 ghost use Rattle.compiler.specs.Meaning.{refuseCompiled, compileOf, writtenOf};
 
-mod sizes;
 mod writing;
 
 use refusals::ROOM;
 use refusals::Refusal;
+use refusals::none;
+use refusals::refused;
 
 // What compiling gives: columns, rows read and nodes written, all 0 in a refusal.
 pub struct Compiled {
@@ -43,16 +44,17 @@ pub fn compile(table: &[u8], nodes: &mut [u8]) -> Compiled
         return refuse(fault);
     }
     let columns = read.columns;
-    let rows = read.rows;
-    let needed = sizes::table_size(table, columns, rows);
+    let count = read.rows;
+    let rows = tables::rows_of(table);
+    let needed = writing::count_table(rows, columns, count);
     if nodes.len() < needed {
-        return refuse(refusals::refused(ROOM, needed));
+        return refuse(refused(ROOM, needed));
     }
-    writing::put_table(nodes, table, columns, rows);
+    writing::put_table(nodes, rows, columns, count);
     Compiled {
-        refusal: fault,
+        refusal: none(),
         columns,
-        rows,
+        rows: count,
         nodes: needed,
     }
 }

@@ -13,8 +13,10 @@ use Rattle.answers.specs.declared.Answer.{Answer}
 use Rattle.answers.specs.declared.Answer.the-variants.{Silent, Bury, Keep, Clash}
 use Rattle.answers.proofs.Every.{each}
 use Rattle.answers.proofs.Laws.{join-assoc, join-same}
-use Rattle.tables.specs.Meaning.{Row, row, matches, says}
-use Rattle.nodes.proofs.Leading.{Leads, still, leads-append, leads-constant, leads-join}
+use Rattle.rows.specs.Meaning.{Row, row, matches}
+use Rattle.tables.specs.Meaning.{Table, rowsSay}
+use Rattle.accepting.proofs.Saying.{Said, says-none, says-either}
+use Rattle.running.proofs.Leads.{Leads, still, leads-append, leads-constant, leads-join}
 use Rattle.compiler.specs.Meaning.{isSilent, rowNodes, rowsLeft, followed, together, tableNodes}
 use Rattle.selection.proofs.Picking.{leads-row}
 
@@ -82,21 +84,30 @@ module _ (height : ℕ) (s : List Answer) (stack : List Answer) (room : length s
           (leads-append (row-leads r (x ∷ stack) (eqb-false (number (r .outcome)) 0 e) (w 0 (omega arith)) (omega arith))
           (leads-append {xs = 7 ∷ []} leads-join (again (join x (saysAlone s r)))))
 
-  -- a table
-  pub table-leads : (rows : List Row) → Wide s rows → Leads height s (tableNodes rows) stack (saysTogether s rows ∷ stack)
-  unfolding tableNodes rowsLeft together saysTogether Wide
-  table-leads [] w = leads-constant Silent (omega arith)
-  table-leads (r ∷ rows) w = go (isSilent (r .outcome)) refl (table-leads rows (wide-rest s r rows w))
+  -- all rows
+  all-lead :
+      (rows : List Row) →
+      Wide s rows →
+      Leads height s (together 7 0 (map rowNodes (rowsLeft rows))) stack (saysTogether s rows ∷ stack)
+  unfolding rowsLeft together saysTogether Wide
+  all-lead [] w = leads-constant Silent (omega arith)
+  all-lead (r ∷ rows) w = go (isSilent (r .outcome)) refl (all-lead rows (wide-rest s r rows w))
     where
       go :
           (b : Bool) →
           isSilent (r .outcome) ≡ b →
           Leads height s (together 7 0 (map rowNodes (rowsLeft rows))) stack (saysTogether s rows ∷ stack) →
-          Leads height s (together 7 0 (map rowNodes (cond b (rowsLeft rows) (r ∷ rowsLeft rows)))) stack (join (saysAlone s r) (saysTogether s rows) ∷ stack)
+          Leads height s (together 7 0 (map rowNodes (cond b (rowsLeft rows) (r ∷ rowsLeft rows)))) stack
+          (join (saysAlone s r) (saysTogether s rows) ∷ stack)
       go true e again = rw (silent-alone s r (eqb-true (number (r .outcome)) 0 e)) again
       go false e again =
           leads-append (row-leads r stack (eqb-false (number (r .outcome)) 0 e) (w 0 (omega arith)) (omega arith))
           (rows-lead rows (saysAlone s r) (wide-rest s r rows w))
+
+  -- a table
+  pub table-leads : (t : Table) → Wide s (t .rows) → Leads height s (tableNodes t) stack (saysTogether s (t .rows) ∷ stack)
+  unfolding tableNodes
+  table-leads t w = all-lead (t .rows) w
 
 -- Rows that match one situation agree.
 unfoldable pub Agree : List Answer → List Row → Type 0
@@ -112,39 +123,21 @@ agree-rest : (s : List Answer) (r : Row) (rows : List Row) → Agree s (r ∷ ro
 unfolding Agree
 agree-rest s r rows a i j l k = a (suc i) (suc j) (omega arith) (omega arith)
 
--- what rows say is silent, or what one of them says that matches
-says-from :
-    (s : List Answer) (rows : List Row) →
-    (says rows s ≡ Silent)
-    ⊎ ((i : ℕ) × (i < length rows) × T (matches (row rows i .cells) s) × (says rows s ≡ row rows i .outcome))
-unfolding says
-says-from s [] = inl refl
-says-from s (r ∷ rows) = go (matches (r .cells) s) refl (says-from s rows)
-  where
-    go :
-        (b : Bool) →
-        matches (r .cells) s ≡ b →
-        (says rows s ≡ Silent) ⊎ ((i : ℕ) × (i < length rows) × T (matches (row rows i .cells) s) × (says rows s ≡ row rows i .outcome)) →
-        (cond b (r .outcome) (says rows s) ≡ Silent)
-        ⊎ ((i : ℕ) × (i < suc (length rows)) × T (matches (row (r ∷ rows) i .cells) s) × (cond b (r .outcome) (says rows s) ≡ row (r ∷ rows) i .outcome))
-    go true e m = inr (0, omega arith, (rw e tt), refl)
-    go false e (inl z) = inl z
-    go false e (inr z) = inr (suc (z .0), (let l = z .1 in omega arith), z .2, z .3)
-
 -- together they say what the matching row says
-pub together-says : (s : List Answer) (rows : List Row) → Agree s rows → saysTogether s rows ≡ says rows s
-unfolding saysTogether says Agree
+pub together-says : (s : List Answer) (rows : List Row) → Agree s rows → saysTogether s rows ≡ rowsSay rows s
+unfolding saysTogether rowsSay Agree
 together-says s [] a = refl
-together-says s (r ∷ rows) a = go (matches (r .cells) s) refl (together-says s rows (agree-rest s r rows a)) (says-from s rows)
+together-says s (r ∷ rows) a = go (matches (r .cells) s) refl (together-says s rows (agree-rest s r rows a)) (says-either rows s)
   where
     go :
         (b : Bool) →
         matches (r .cells) s ≡ b →
-        saysTogether s rows ≡ says rows s →
-        (says rows s ≡ Silent) ⊎ ((i : ℕ) × (i < length rows) × T (matches (row rows i .cells) s) × (says rows s ≡ row rows i .outcome)) →
-        join (cond b (r .outcome) Silent) (saysTogether s rows) ≡ cond b (r .outcome) (says rows s)
+        saysTogether s rows ≡ rowsSay rows s →
+        ((i : ℕ) → i < length rows → T (matches (row rows i .cells) s) → ⊥) ⊎ ((i : ℕ) × Said rows s i) →
+        join (cond b (r .outcome) Silent) (saysTogether s rows) ≡ cond b (r .outcome) (rowsSay rows s)
     go false e h m = h
-    go true e h (inl z) = rw (h, z) (join-silent (r .outcome))
+    go true e h (inl f) = rw (h, says-none rows s f) (join-silent (r .outcome))
     go true e h (inr z) =
-        let same : row rows (z .0) .outcome ≡ r .outcome = a (suc (z .0)) 0 (let l = z .1 in omega arith) (omega arith) (z .2) (rw e tt) in
-        rw (h, z .3, same) (join-same (r .outcome))
+        let same : row rows (z .0) .outcome ≡ r .outcome =
+        a (suc (z .0)) 0 (let l = z .1 .inside in omega arith) (omega arith) (z .1 .matched) (rw e tt) in
+        rw (h, z .1 .gives, same) (join-same (r .outcome))

@@ -1,3 +1,4 @@
 pub mod Picking
 pub mod Answering
 pub mod Trees
+pub mod Replies

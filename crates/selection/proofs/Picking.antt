@@ -12,38 +12,37 @@ use Rattle.answers.specs.Meaning.{number, negate, turn, meet}
 use Rattle.answers.specs.declared.Answer.{Answer}
 use Rattle.answers.specs.declared.Answer.the-variants.{Silent, Bury, Keep, Clash}
 use Rattle.answers.proofs.Every.{each, all2}
-use Rattle.tables.specs.Meaning.{Cell, is, any, cellMatches, matches}
-use Rattle.nodes.proofs.Leading.{Leads, still, leads-append, leads-constant, leads-column, leads-negate, leads-turn, leads-meet}
+use Rattle.rows.specs.Meaning.{Cell, is, any, cellMatches, matches}
+use Rattle.running.proofs.Leads.{Leads, allNodes, still, leads-append, leads-constant, leads-column, leads-negate, leads-turn, leads-meet}
+use Rattle.nodes.specs.Inside.{turnedBy}
 use Rattle.compiler.specs.Meaning.{turned, selector, selectors, followed, together}
-
--- so many turns
-unfoldable pub turnBy : ℕ → Answer → Answer
-turnBy zero x = x
-turnBy (suc k) x = turnBy k (turn x)
 
 -- what a selector makes of its column's answer
 unfoldable pub selected : Answer → Answer → Answer → Answer
 selected a Silent x = Silent
-selected a Keep x = meet (turnBy (3 - number a) x) (turnBy ((3 - number a + 3) % 4) x)
-selected a Bury x = negate (meet (turnBy (3 - number a) x) (turnBy ((3 - number a + 3) % 4) x))
-selected a Clash x = meet (turnBy (3 - number a) x) (negate (turnBy (3 - number a) x))
+selected a Keep x = meet (turnedBy (3 - number a) x) (turnedBy ((3 - number a + 3) % 4) x)
+selected a Bury x = negate (meet (turnedBy (3 - number a) x) (turnedBy ((3 - number a + 3) % 4) x))
+selected a Clash x = meet (turnedBy (3 - number a) x) (negate (turnedBy (3 - number a) x))
 
 -- "A selector picks: for each outcome j and each cell a: j where the column is a, silent elsewhere."
 pub selector-picks : (j a x : Answer) → selected a j x ≡ cond (eqb (number a) (number x)) j Silent
-unfolding selected turnBy
+unfolding selected turnedBy
 selector-picks Silent = all2 _ (search refl)
 selector-picks Bury = all2 _ (search refl)
 selector-picks Keep = all2 _ (search refl)
 selector-picks Clash = all2 _ (search refl)
 
 module _ {height : ℕ} {s : List Answer} where
-  leads-turns : (k : ℕ) {x : Answer} {stack : List Answer} → Leads height s (replicate k 5) (x ∷ stack) (turnBy k x ∷ stack)
-  unfolding turnBy
+  leads-turns : (k : ℕ) {x : Answer} {stack : List Answer} → Leads height s (replicate k 5) (x ∷ stack) (turnedBy k x ∷ stack)
+  unfolding turnedBy
   leads-turns zero = still
   leads-turns (suc k) = leads-append {xs = 5 ∷ []} leads-turn (leads-turns k)
 
   module _ (column : ℕ) (six : column < 6) (inside : column < length s) where
-    leads-turned : (k : ℕ) {stack : List Answer} → length stack < height → Leads height s (turned column k) stack (turnBy k (getD s column Silent) ∷ stack)
+    leads-turned :
+        (k : ℕ) {stack : List Answer} →
+        length stack < height →
+        Leads height s (turned column k) stack (turnedBy k (getD s column Silent) ∷ stack)
     unfolding turned
     leads-turned k l = leads-append {xs = (16 + column) ∷ []} (leads-column column six inside l) (leads-turns k)
 
@@ -55,7 +54,9 @@ module _ {height : ℕ} {s : List Answer} where
     unfolding selector selected
     leads-selector a Silent h l = absurd (h refl)
     leads-selector a Keep h l =
-        leads-append (leads-append (leads-turned (3 - number a) (omega arith)) (leads-turned ((3 - number a + 3) % 4) (omega arith))) leads-meet
+        leads-append
+        (leads-append (leads-turned (3 - number a) (omega arith)) (leads-turned ((3 - number a + 3) % 4) (omega arith)))
+        leads-meet
     leads-selector a Bury h l =
         leads-append (leads-append (leads-turned (3 - number a) (omega arith)) (leads-turned ((3 - number a + 3) % 4) (omega arith)))
         (leads-append {xs = 6 ∷ []} leads-meet leads-negate)
@@ -84,12 +85,15 @@ module _ {height : ℕ} {s : List Answer} (j : Answer) (loud : number j ≡ 0 �
       length stack + 2 ≤ height →
       Leads height s (selector column a j) stack (cond (cellMatches (is a) (getD s column Silent)) j Silent ∷ stack)
   leads-picked column a {stack} six inside room =
-      rw (selector-picks j a (getD s column Silent)) at (leads-selector {height = height} {s = s} column six inside a j {stack = stack} loud room)
+      rw (selector-picks j a (getD s column Silent)) at
+      (leads-selector {height = height} {s = s} column six inside a j {stack = stack} loud room)
 
   leads-both :
       (b c : Bool) (stack : List Answer) →
       Leads height s (6 ∷ []) (cond c j Silent ∷ cond b j Silent ∷ stack) (cond (b && c) j Silent ∷ stack)
-  leads-both b c stack = rw (meet-picks b c j) at (leads-meet {height = height} {s = s} {stack = stack} {p = cond b j Silent} {q = cond c j Silent})
+  leads-both b c stack =
+      rw (meet-picks b c j) at
+      (leads-meet {profile = allNodes height} {s = s} {stack = stack} {p = cond b j Silent} {q = cond c j Silent})
 
   -- the further cells of a row
   leads-cells :
@@ -97,14 +101,16 @@ module _ {height : ℕ} {s : List Answer} (j : Answer) (loud : number j ≡ 0 �
       column + length cells ≤ 6 →
       column + length cells ≤ length s →
       length stack + 3 ≤ height →
-      Leads height s (followed 6 (selectors column j cells)) (cond b j Silent ∷ stack) (cond (b && matches cells (drop column s)) j Silent ∷ stack)
+      Leads height s (followed 6 (selectors column j cells)) (cond b j Silent ∷ stack)
+      (cond (b && matches cells (drop column s)) j Silent ∷ stack)
   unfolding selectors followed matches
   leads-cells column [] b stack six inside room = rw (and-true b) still
   leads-cells column (is a ∷ cells) b stack six inside room =
       let c : Bool = cellMatches (is a) (getD s column Silent) in
       rw (drop-cons s column Silent (omega arith), ← and-assoc b c (matches cells (drop (suc column) s)))
       (leads-append (leads-picked column a (omega arith) (omega arith) (omega arith))
-      (leads-append {xs = 6 ∷ []} (leads-both b c stack) (leads-cells (suc column) cells (b && c) stack (omega arith) (omega arith) (omega arith))))
+      (leads-append {xs = 6 ∷ []} (leads-both b c stack)
+      (leads-cells (suc column) cells (b && c) stack (omega arith) (omega arith) (omega arith))))
   leads-cells column (any ∷ cells) b stack six inside room =
       rw (drop-cons s column Silent (omega arith)) (leads-cells (suc column) cells b stack (omega arith) (omega arith) room)
 

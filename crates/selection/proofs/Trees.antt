@@ -9,8 +9,8 @@ use Rattle.answers.specs.Meaning.{fromNumber, succeed}
 use Rattle.answers.specs.declared.Answer.{Answer}
 use Rattle.situations.specs.Meaning.{fault, answersOf}
 use Rattle.tables.specs.Meaning.{Table, WellFormed, Consistent, says}
-use Rattle.nodes.specs.Meaning.{run, evaluateOf}
-use Rattle.nodes.proofs.Leading.{leads-answer}
+use Rattle.nodes.specs.Meaning.{full, run, evaluateOf}
+use Rattle.running.proofs.Leads.{leads-answer}
 use Rattle.compiler.specs.Meaning.{tableNodes}
 use Rattle.selection.proofs.Answering.{Wide, Agree, together-says, table-leads}
 
@@ -21,12 +21,12 @@ pub tree-run :
     Consistent t →
     (s : List Answer) →
     length s ≡ t .columns →
-    run 16 s 0 [] (tableNodes (t .rows)) ≡ succeed (says (t .rows) s)
+    run full s 0 [] (tableNodes t) ≡ succeed (says t s)
 unfolding Wide Agree
 tree-run t w c s long =
     let wide : Wide s (t .rows) = λ i l. (rw (w .wide i l) (w .few-columns), rw (w .wide i l, long) (omega arith)) in
     let agree : Agree s (t .rows) = λ i j k l. c .agree i j k l s long in
-    leads-answer 0 (table-leads 16 s [] (omega arith) (t .rows) wide) ∙ ap succeed (together-says s (t .rows) agree)
+    leads-answer 0 (table-leads 16 s [] (omega arith) t wide) ∙ ap succeed (together-says s (t .rows) agree)
 
 -- "For every accepted table and every situation of its columns, evaluating the nodes succeeds and answers what the table says."
 pub tree-answers :
@@ -36,6 +36,6 @@ pub tree-answers :
     (s : List ℕ) →
     fault s .number ≡ 0 →
     length s ≡ t .columns →
-    evaluateOf (tableNodes (t .rows)) s ≡ succeed (says (t .rows) (answersOf s))
+    evaluateOf (tableNodes t) s ≡ succeed (says t (answersOf s))
 unfolding evaluateOf
 tree-answers t w c s h e = rw (eq-eqb (fault s .number) 0 h) (tree-run t w c (answersOf s) (length-map s fromNumber ∙ e))

@@ -1,22 +1,16 @@
-use Rattle.compiler.proofs.Selecting.{keep-room, bury-room, clash-room, bury-next, clash-next, ending-silent, ending-keep, ending-bury, ending-clash}
 use borrow.Author.Needs.{needs}
+use Rattle.compiler.proofs.Selectors.{keep-within, bury-within, clash-within, ending-silent, ending-keep, ending-bury, ending-clash}
 use Rattle.compiler.proofs.writing.put_ending.Statement.{statement}
 use Rattle.compiler.proofs.writing.put_ending.Tie as tie
 
 put-requires : tie.Need-put-requires
-put-requires c κs = search (needs, keep-room)
+put-requires c κs = search (needs, keep-within)
 
-put-requires-2 : tie.Need-put-requires-2
-put-requires-2 c κs = search (needs, bury-room)
+put-two-requires : tie.Need-put-two-requires
+put-two-requires c κs = search (needs, bury-within)
 
-put-requires-3 : tie.Need-put-requires-3
-put-requires-3 c κs = search (needs, bury-next)
-
-put-requires-4 : tie.Need-put-requires-4
-put-requires-4 c κs = search (needs, clash-room)
-
-put-requires-5 : tie.Need-put-requires-5
-put-requires-5 c κs = search (needs, clash-next)
+put-two-requires-2 : tie.Need-put-two-requires-2
+put-two-requires-2 c κs = search (needs, clash-within)
 
 returns : tie.Need-returns
 returns c = search (needs, ending-silent)
@@ -38,11 +32,9 @@ put-ending-spec =
     (λ c. search needs)
     put-requires
     (λ c. search needs)
-    put-requires-2
-    put-requires-3
+    put-two-requires
     (λ c. search needs)
-    put-requires-4
-    put-requires-5
+    put-two-requires-2
     returns
     (λ c. search needs)
     returns-2

@@ -2,30 +2,30 @@ use borrow.Author.Needs.{needs}
 use Prim.Native.Nat.{_-_}
 use lib.ListN.{length}
 use Rattle.compiler.specs.Inside.{WritingCells}
-use Rattle.compiler.proofs.Selecting.{writing-cells, cells-room, writing-cell, cells-long, constant-room, constant-row, cells-done}
+use Rattle.compiler.proofs.Rows.{cells-start, cell-within, cells-more, cells-long, outcome-within, outcome-written, cells-done}
 use Rattle.compiler.proofs.writing.put_row.Statement.{statement}
 use Rattle.compiler.proofs.writing.put_row.Tie as tie
 
 abbrev Inv-loop : tie.InvT-loop
-Inv-loop nodes₀ at cells j next₀ first₀ i₀ nodes next first i = WritingCells j cells nodes₀ next₀ nodes next first i
+Inv-loop nodes₀ at cells j next₀ i₀ nodes next i = WritingCells j cells nodes₀ next₀ nodes next i
 
 abbrev μ-loop : tie.MeasureT-loop
-μ-loop nodes₀ at cells j next₀ first₀ i₀ nodes next first i = length cells - i
+μ-loop nodes₀ at cells j next₀ i₀ nodes next i = length cells - i
 
 loop-holds : tie.Need-loop-holds Inv-loop μ-loop
-loop-holds c = writing-cells _ _ _ _
+loop-holds c = cells-start _ _ _ _
 
 put-cell-requires : tie.Need-put-cell-requires Inv-loop μ-loop
-put-cell-requires c κs = search (needs, cells-room)
+put-cell-requires c κs = search (needs, cell-within)
 
 loop-again : tie.Need-loop-again Inv-loop μ-loop
-loop-again c = search (needs, writing-cell)
+loop-again c = search (needs, cells-more)
 
 put-requires : tie.Need-put-requires Inv-loop μ-loop
-put-requires c κs = search (needs, constant-room)
+put-requires c κs = search (needs, outcome-within)
 
 returns : tie.Need-returns Inv-loop μ-loop
-returns c = search (needs, constant-row)
+returns c = search (needs, outcome-written)
 
 same-length-2 : tie.Need-same-length-2 Inv-loop μ-loop
 same-length-2 c = search (needs, cells-long)
@@ -42,7 +42,6 @@ put-row-spec =
     loop-holds
     (λ c. search needs)
     put-cell-requires
-    (λ c κs. search needs)
     (λ c. search needs)
     (λ c. search needs)
     loop-again

@@ -1,31 +1,31 @@
 use borrow.Author.Needs.{needs}
 use Prim.Native.Nat.{_-_}
 use Rattle.compiler.specs.Inside.{WritingRows}
-use Rattle.compiler.proofs.Counted.{row-few}
-use Rattle.compiler.proofs.Selecting.{writing-rows, rows-room, writing-row, rows-long, silent-room, silent-table, rows-done}
+use Rattle.compiler.proofs.Tables.{cells-few, rows-start, next-row-within, rows-more, rows-long}
+use Rattle.compiler.proofs.Tables.{zero-within, zero-written, rows-done}
 use Rattle.compiler.proofs.writing.put_table.Statement.{statement}
 use Rattle.compiler.proofs.writing.put_table.Tie as tie
 
 abbrev Inv-loop : tie.InvT-loop
-Inv-loop nodes₀ table columns rows next₀ first₀ i₀ nodes next first i = WritingRows table columns rows nodes₀ nodes next first i
+Inv-loop nodes₀ rows columns count next₀ i₀ nodes next i = WritingRows rows columns count nodes₀ nodes next i
 
 abbrev μ-loop : tie.MeasureT-loop
-μ-loop nodes₀ table columns rows next₀ first₀ i₀ nodes next first i = rows - i
+μ-loop nodes₀ rows columns count next₀ i₀ nodes next i = count - i
 
 loop-holds : tie.Need-loop-holds Inv-loop μ-loop
-loop-holds c = writing-rows _ _ _ _
+loop-holds c = rows-start _ _ _ _
 
-put-row-step-requires : tie.Need-put-row-step-requires Inv-loop μ-loop
-put-row-step-requires c κs = search (needs, row-few, rows-room)
+put-next-row-requires : tie.Need-put-next-row-requires Inv-loop μ-loop
+put-next-row-requires c κs = search (needs, cells-few, next-row-within)
 
 loop-again : tie.Need-loop-again Inv-loop μ-loop
-loop-again c = search (needs, writing-row)
+loop-again c = search (needs, rows-more)
 
 put-requires : tie.Need-put-requires Inv-loop μ-loop
-put-requires c κs = search (needs, silent-room)
+put-requires c κs = search (needs, zero-within)
 
 returns : tie.Need-returns Inv-loop μ-loop
-returns c = search (needs, silent-table)
+returns c = search (needs, zero-written)
 
 same-length-2 : tie.Need-same-length-2 Inv-loop μ-loop
 same-length-2 c = search (needs, rows-long)
@@ -41,8 +41,9 @@ put-table-spec =
     μ-loop
     loop-holds
     (λ c κs. search needs)
-    put-row-step-requires
     (λ c κs. search needs)
+    (λ c κs. search needs)
+    put-next-row-requires
     (λ c. search needs)
     (λ c. search needs)
     loop-again

@@ -1,46 +1,53 @@
 use borrow.Author.Needs.{needs}
-use Prim.Native.Nat.{_-_}
-use Rattle.compiler.specs.Inside.{WritingTurns}
-use Rattle.compiler.proofs.Stores.{writing-turns, turns-room, writing-turn, turns-long, turned-all, turned-room}
+use Rattle.compiler.proofs.Selectors.{turned-counted, turned-none, turned-once, turned-twice, turned-thrice}
+use Rattle.compiler.proofs.Selectors.{turned-inside, turned-inside-2, turned-inside-3}
 use Rattle.compiler.proofs.writing.put_turned.Statement.{statement}
 use Rattle.compiler.proofs.writing.put_turned.Tie as tie
 
-abbrev Inv-loop : tie.InvT-loop
-Inv-loop nodes₀ at column turns next₀ i₀ nodes next i = WritingTurns turns nodes₀ next₀ nodes next i
+returns : tie.Need-returns
+returns c = search (needs, turned-counted)
 
-abbrev μ-loop : tie.MeasureT-loop
-μ-loop nodes₀ at column turns next₀ i₀ nodes next i = turns - i
+returns-2 : tie.Need-returns-2
+returns-2 c = search (needs, turned-none)
 
-put-requires : tie.Need-put-requires Inv-loop μ-loop
-put-requires c κs = search (needs, turned-room)
+slice-write-nodes-2 : tie.Need-slice-write-nodes-2
+slice-write-nodes-2 c = search (needs, turned-inside)
 
-loop-holds : tie.Need-loop-holds Inv-loop μ-loop
-loop-holds c = writing-turns _ _ _
+returns-3 : tie.Need-returns-3
+returns-3 c = search (needs, turned-once)
 
-put-requires-2 : tie.Need-put-requires-2 Inv-loop μ-loop
-put-requires-2 c κs = search (needs, turns-room)
+slice-write-nodes-3 : tie.Need-slice-write-nodes-3
+slice-write-nodes-3 c = search (needs, turned-inside-2)
 
-loop-again : tie.Need-loop-again Inv-loop μ-loop
-loop-again c = search (needs, writing-turn)
+returns-4 : tie.Need-returns-4
+returns-4 c = search (needs, turned-twice)
 
-same-length : tie.Need-same-length Inv-loop μ-loop
-same-length c = search (needs, turns-long)
+slice-write-nodes-4 : tie.Need-slice-write-nodes-4
+slice-write-nodes-4 c = search (needs, turned-inside-3)
 
-returns : tie.Need-returns Inv-loop μ-loop
-returns c = search (needs, turned-all)
+returns-5 : tie.Need-returns-5
+returns-5 c = search (needs, turned-thrice)
 
 pub put-turned-spec : {M : Type 1} → statement M
 put-turned-spec =
     tie.close
     (tie.spec
-    Inv-loop
-    μ-loop
+    (λ c. search needs)
+    (λ c. search needs)
+    returns
     (λ c κs. search needs)
-    put-requires
-    loop-holds
-    put-requires-2
     (λ c. search needs)
     (λ c. search needs)
-    loop-again
-    same-length
-    returns)
+    returns-2
+    (λ c. search needs)
+    slice-write-nodes-2
+    (λ c. search needs)
+    returns-3
+    (λ c. search needs)
+    slice-write-nodes-3
+    (λ c. search needs)
+    returns-4
+    (λ c. search needs)
+    slice-write-nodes-4
+    (λ c. search needs)
+    returns-5)

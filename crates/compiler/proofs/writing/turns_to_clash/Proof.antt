@@ -1,6 +1,6 @@
 use borrow.Author.Needs.{needs}
-use Rattle.compiler.proofs.sizes.turns_to_clash.Statement.{statement}
-use Rattle.compiler.proofs.sizes.turns_to_clash.Tie as tie
+use Rattle.compiler.proofs.writing.turns_to_clash.Statement.{statement}
+use Rattle.compiler.proofs.writing.turns_to_clash.Tie as tie
 
 returns : tie.Need-returns
 returns c = rw (c .enum-told .given .1)
