@@ -15,8 +15,8 @@ module _ (b : ℕ) where
   above : 6 < b → nodeOf b ≡ cond (eqb b 7) Join (cond (ltb b 16) Foreign (cond (ltb b 22) (Column (b - 16)) Foreign))
   above h = rw (le-ltb b 4 (omega arith), ne-eqb b 4 (λ e. omega arith), ne-eqb b 5 (λ e. omega arith), ne-eqb b 6 (λ e. omega arith))
 
-  pub is-turn : b ≡ 5 → Turn ≡ nodeOf b
-  is-turn e = rw e
+  pub is-turn : b ≤ 6 → (b ≡ 4 → ⊥) → (b ≡ 6 → ⊥) → 4 ≤ b → Turn ≡ nodeOf b
+  is-turn h d f l = let e : b ≡ 5 = omega (arith, d, f) in rw e
 
   pub is-meet : b ≡ 6 → Meet ≡ nodeOf b
   is-meet e = rw e
@@ -27,8 +27,8 @@ module _ (b : ℕ) where
   pub is-negate : b ≡ 4 → Negate ≡ nodeOf b
   is-negate e = rw e
 
-  pub is-constant : {a : Answer} → b ≤ 6 → (b ≡ 4 → ⊥) → (b ≡ 5 → ⊥) → (b ≡ 6 → ⊥) → a ≡ fromNumber b → Constant a ≡ nodeOf b
-  is-constant h d e f g = let l : b < 4 = omega (arith, d, e, f) in rw (lt-ltb b 4 l, g)
+  pub is-constant : {a : Answer} → b < 4 → a ≡ fromNumber b → Constant a ≡ nodeOf b
+  is-constant l e = rw (lt-ltb b 4 l, e)
 
   pub is-between : 6 < b → b < 16 → (b ≡ 7 → ⊥) → Foreign ≡ nodeOf b
   is-between h l g = rw (above h, ne-eqb b 7 g, lt-ltb b 16 l)

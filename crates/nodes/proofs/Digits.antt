@@ -4,36 +4,29 @@ use mathlib.Core.Path.{_≡_, refl, ap}
 use mathlib.Core.List.{[], _∷_}
 use lib.ListN.{length}
 use native.Mathlib.Nat.{pow-suc, pow-le-pow-right, zero-lt-suc}
-use native.Mathlib.Numerals.{add-one}
 use native.Mathlib.Omega.{arith}
 use Rattle.answers.specs.Meaning.{number, fromNumber}
 use Rattle.answers.specs.declared.Answer.{Answer}
 use Rattle.answers.proofs.Claims.{number-from, number-small}
 use Rattle.nodes.specs.declared.Machine.{Machine}
-use Rattle.nodes.specs.Inside.{view, stackOf, Ready, Free, Put, Failed}
+use Rattle.nodes.specs.Inside.{view, stackOf, Ready}
 
 -- what fits into a height
-fits-more : (s h k : ℕ) → s < 4 ^ h → k ≤ 3 → s * 4 + k < 4 ^ suc h
+pub fits-more : (s h k : ℕ) → s < 4 ^ h → k ≤ 3 → s * 4 + k < 4 ^ suc h
 fits-more s h k f l = omega (arith, pow-suc 4 h)
 
-fits-less : (s h : ℕ) → 0 < h → s < 4 ^ h → s / 4 < 4 ^ (h - 1)
+pub fits-less : (s h : ℕ) → 0 < h → s < 4 ^ h → s / 4 < 4 ^ (h - 1)
 fits-less s zero p f = absurd (omega arith)
 fits-less s (suc h) p f = let e : suc h - 1 ≡ h = omega arith in rw e (omega (arith, pow-suc 4 h))
 
-fits-less-two : (s h : ℕ) → 1 < h → s < 4 ^ h → s / 16 < 4 ^ (h - 2)
+pub fits-less-two : (s h : ℕ) → 1 < h → s < 4 ^ h → s / 16 < 4 ^ (h - 2)
 fits-less-two s zero p f = absurd (omega arith)
 fits-less-two s (suc zero) p f = absurd (omega arith)
 fits-less-two s (suc (suc h)) p f =
     let e : suc (suc h) - 2 ≡ h = omega arith in rw e (omega (arith, pow-suc 4 h, pow-suc 4 (suc h)))
 
-fits-small : (s h : ℕ) → h < 16 → s < 4 ^ h → s < 1073741824
-fits-small s h l f = omega (arith, pow-le-pow-right {n = 4} (zero-lt-suc 3) {i = h} {j = 15} (omega arith))
-
-free : (s h : ℕ) → h < 16 → s < 4 ^ h → Free s h
-free s h l f = record { room = l; below = f; small = fits-small s h l f }
-
 -- what a stack number shows
-view-put : (h s : ℕ) (a : Answer) → view (suc h) (s * 4 + number a) ≡ a ∷ view h s
+pub view-put : (h s : ℕ) (a : Answer) → view (suc h) (s * 4 + number a) ≡ a ∷ view h s
 unfolding view
 view-put h s a =
     let d : (s * 4 + number a) % 4 ≡ number a = omega (arith, number-small a) in
@@ -52,46 +45,12 @@ view-two (suc zero) s p = absurd (omega arith)
 view-two (suc (suc h)) s p =
     let e : s / 4 / 4 ≡ s / 16 = omega arith in let d : suc (suc h) - 2 ≡ h = omega arith in rw (e, d)
 
-pub view-none : (s : ℕ) → view 0 s ≡ []
-unfolding view
-view-none s = refl
-
-pub view-one : (s : ℕ) → view 1 s ≡ fromNumber (s % 4) ∷ []
-unfolding view
-view-one s = refl
-
 pub length-view : (h s : ℕ) → length (view h s) ≡ h
 unfolding view
 length-view zero s = refl
 length-view (suc h) s = ap suc (length-view h (s / 4))
 
--- the machine's own steps
-pub put-made : (s h : ℕ) (a : Answer) {k : ℕ} → Free s h → k ≡ number a → Put s h a (record { stack = s * 4 + k; height = h + 1; fault = 0 })
-put-made s h a {k} f e =
-    record {
-      ready = record { room = omega arith; below = rw add-one (fits-more s h k (f .below) (omega (arith, number-small a))) };
-      sound = refl;
-      filled = omega arith;
-      holds = rw (add-one, e) (view-put h s a);
-    }
-
-pub failed-made : (number : ℕ) → Failed number (record { stack = 0; height = 0; fault = number })
-failed-made number = record { ready = record { room = omega arith; below = omega arith }; told = refl; holds = view-none 0 }
-
--- room for what comes instead of the upper one, and the upper two
-pub free-same : (m : Machine) {limit : ℕ} → Ready m → m .height < limit → limit ≤ 16 → Free (m .stack) (m .height)
-free-same m r l k = free (m .stack) (m .height) (omega arith) (r .below)
-
-pub free-one : (m : Machine) → Ready m → 0 < m .height → Free (m .stack / 4) (m .height - 1)
-free-one m r l = free (m .stack / 4) (m .height - 1) (omega arith) (fits-less (m .stack) (m .height) l (r .below))
-
-pub free-two : (m : Machine) → Ready m → 1 < m .height → Free (m .stack / 16) (m .height - 2)
-free-two m r l = free (m .stack / 16) (m .height - 2) (omega arith) (fits-less-two (m .stack) (m .height) l (r .below))
-
 -- the stack opened at its top
-pub stack-single : (m : Machine) → m .height ≡ 1 → stackOf m ≡ fromNumber (m .stack % 4) ∷ []
-stack-single m e = rw e (view-one (m .stack))
-
 pub stack-top : (m : Machine) → 0 < m .height → stackOf m ≡ fromNumber (m .stack % 4) ∷ view (m .height - 1) (m .stack / 4)
 stack-top m p = view-top (m .height) (m .stack) p
 
@@ -103,3 +62,7 @@ stack-two m p = view-two (m .height) (m .stack) p
 
 pub length-stack : (m : Machine) → length (stackOf m) ≡ m .height
 length-stack m = length-view (m .height) (m .stack)
+
+-- sixteen digits leave room for more
+pub ready-small : (m : Machine) → Ready m → m .stack < 4294967296
+ready-small m r = omega (arith, r .below, pow-le-pow-right {n = 4} (zero-lt-suc 3) {i = m .height} {j = 16} (r .room))

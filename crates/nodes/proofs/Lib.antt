@@ -1,9 +1,6 @@
 pub mod Digits
 pub mod Decoding
-pub mod Stepping
+pub mod Climbing
 pub mod Turning
-pub mod Passing
-pub mod Going
-pub mod Leading
-pub mod Deeper
-pub mod Alike
+pub mod Acting
+pub mod Evaluation

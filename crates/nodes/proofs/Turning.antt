@@ -1,4 +1,4 @@
--- Turns that stand one after another are done at once: the law is run-turns.
+-- Turns that stand one after another are done at once (run-turns), as both machines do it behind a column (run-past).
 use Prim.Native.Nat.{ℕ, zero, suc, _+_, _-_, _*_, _/_, _%_, _≤_, _<_}
 use mathlib.Core.Path.{_≡_, refl, sym, _∙_}
 use mathlib.Core.Bool.{Bool, true, false, cond}
@@ -6,18 +6,22 @@ use mathlib.Core.List.{List, [], _∷_}
 use lib.Dec.{eqb}
 use lib.ListN.{length, drop, getD, length-drop, drop-of-length-le}
 use lib.Seq.{drop-cons, drop-drop}
-use borrow.Author.Tests.{eqb-true, ne-eqb}
+use borrow.Author.Tests.{lt-ltb, eqb-true, ne-eqb}
 use native.Mathlib.Nat.{pow-suc, add-zero}
 use native.Mathlib.Numerals.{add-one}
 use native.Mathlib.Omega.{arith}
 use Rattle.answers.specs.Meaning.{number, fromNumber, turn}
 use Rattle.answers.specs.declared.Answer.{Answer}
+use Rattle.answers.specs.declared.Answer.the-variants.{Silent}
 use Rattle.answers.proofs.Claims.{from-number, number-from, number-small, turn-number}
-use Rattle.nodes.specs.Meaning.{step, run, turns}
-use Rattle.nodes.specs.Inside.{view, turnedBy, Passed, Turned}
+use Rattle.nodes.specs.declared.Node.{Node}
+use Rattle.nodes.specs.declared.Node.the-variants.{Constant, Negate, Turn, Meet, Join, Column, Foreign}
+use Rattle.nodes.specs.declared.Profile.{Profile}
+use Rattle.nodes.specs.Meaning.{climb, act, run, turns, past}
+use Rattle.nodes.specs.Inside.{turnedBy, actTurned, Passed}
 
 -- turning a number
-turnedBy-number : (n d : ℕ) → d ≤ 3 → fromNumber ((d + n) % 4) ≡ turnedBy n (fromNumber d)
+pub turnedBy-number : (n d : ℕ) → d ≤ 3 → fromNumber ((d + n) % 4) ≡ turnedBy n (fromNumber d)
 unfolding turnedBy
 turnedBy-number zero d h = let e : (d + 0) % 4 ≡ d = omega arith in rw e
 turnedBy-number (suc n) d h =
@@ -36,26 +40,28 @@ turns-short (b ∷ nodes) = go (eqb b 5) (turns-short nodes)
     go false h = omega arith
 
 pub run-turns :
-    (height : ℕ) (s : List Answer) (place : ℕ) (p : Answer) (stack : List Answer) (nodes : List ℕ) →
-    run height s place (p ∷ stack) nodes
-    ≡ run height s (place + turns nodes) (turnedBy (turns nodes) p ∷ stack) (drop (turns nodes) nodes)
-unfolding run step turns turnedBy
-run-turns height s place p stack [] = rw (add-zero place)
-run-turns height s place p stack (b ∷ nodes) = go (eqb b 5) refl (run-turns height s (suc place) (turn p) stack nodes)
+    (profile : Profile) (s : List Answer) (place : ℕ) (p : Answer) (stack : List Answer) (nodes : List ℕ) →
+    run profile s place (p ∷ stack) nodes
+    ≡ run profile s (place + turns nodes) (turnedBy (turns nodes) p ∷ stack) (drop (turns nodes) nodes)
+unfolding run climb act turns turnedBy
+run-turns profile s place p stack [] = rw (add-zero place)
+run-turns profile s place p stack (b ∷ nodes) = go (eqb b 5) refl (run-turns profile s (suc place) (turn p) stack nodes)
   where
     go :
         (t : Bool) →
         eqb b 5 ≡ t →
-        run height s (suc place) (turn p ∷ stack) nodes
-        ≡ run height s (suc place + turns nodes) (turnedBy (turns nodes) (turn p) ∷ stack) (drop (turns nodes) nodes) →
-        run height s place (p ∷ stack) (b ∷ nodes)
+        run profile s (suc place) (turn p ∷ stack) nodes
+        ≡ run profile s (suc place + turns nodes) (turnedBy (turns nodes) (turn p) ∷ stack) (drop (turns nodes) nodes) →
+        run profile s place (p ∷ stack) (b ∷ nodes)
         ≡ run
-        height
+        profile
         s
         (place + cond t (suc (turns nodes)) 0)
         (turnedBy (cond t (suc (turns nodes)) 0) p ∷ stack)
         (drop (cond t (suc (turns nodes)) 0) (b ∷ nodes))
-    go true e h = let f : place + suc (turns nodes) ≡ suc place + turns nodes = omega arith in rw (eqb-true b 5 e, f) h
+    go true e h =
+        let f : place + suc (turns nodes) ≡ suc place + turns nodes = omega arith in
+        rw (eqb-true b 5 e, lt-ltb 0 (suc (length stack)) (omega arith), f) h
     go false e h = rw (add-zero place)
 
 -- only an answer's number modulo 4 counts
@@ -84,39 +90,52 @@ module _ (nodes : List ℕ) (start : ℕ) where
   unfolding turns
   passed-all i w l = sym (w .same ∙ (rw (drop-of-length-le nodes {i = i} l, add-zero i)))
 
-  -- behind the turns
-  module _ {next : ℕ} (e : next ≡ start + turns (drop start nodes)) where
-    pub turns-ahead : start ≤ next
-    turns-ahead = omega arith
+  pub past-column : {node : Node} {k r : ℕ} → node ≡ Column k → r ≡ start + turns (drop start nodes) → r ≡ past node nodes start
+  unfolding past
+  past-column n e = rw n e
 
-    pub turns-inside : start ≤ length nodes → next ≤ length nodes
-    turns-inside l = omega (arith, turns-short (drop start nodes), length-drop start nodes)
+-- where a run goes on
+module _ (nodes : List ℕ) (start : ℕ) where
+  pub past-ahead : (node : Node) → start ≤ past node nodes start
+  unfolding past
+  past-ahead (Constant a) = omega arith
+  past-ahead (Column k) = omega arith
+  past-ahead Negate = omega arith
+  past-ahead Turn = omega arith
+  past-ahead Meet = omega arith
+  past-ahead Join = omega arith
+  past-ahead Foreign = omega arith
 
-    pub turns-same :
-        (height : ℕ) (s : List Answer) (p : Answer) (stack : List Answer) →
-        run height s start (p ∷ stack) (drop start nodes) ≡ run height s next (turnedBy (next - start) p ∷ stack) (drop next nodes)
-    turns-same height s p stack =
+  pub past-inside : (node : Node) → start ≤ length nodes → past node nodes start ≤ length nodes
+  unfolding past
+  past-inside (Constant a) l = l
+  past-inside (Column k) l = omega (arith, turns-short (drop start nodes), length-drop start nodes)
+  past-inside Negate l = l
+  past-inside Turn l = l
+  past-inside Meet l = l
+  past-inside Join l = l
+  past-inside Foreign l = l
+
+  module _ (profile : Profile) (s : List Answer) (stack : List Answer) where
+    column-past :
+        (p : Answer) (next : ℕ) →
+        next ≡ start + turns (drop start nodes) →
+        run profile s start (p ∷ stack) (drop start nodes)
+        ≡ run profile s next (turnedBy (next - start) p ∷ stack) (drop next nodes)
+    column-past p next e =
         let d : next - start ≡ turns (drop start nodes) = omega arith in
-        run-turns height s start p stack (drop start nodes) ∙ (rw (d, e, drop-drop (turns (drop start nodes)) start nodes))
+        run-turns profile s start p stack (drop start nodes) ∙ (rw (d, e, drop-drop (turns (drop start nodes)) start nodes))
 
--- the ways out of `turn_on`
-pub turned-by :
-    (nodes : List ℕ) (start stack : ℕ) {next : ℕ} →
-    start ≤ length nodes →
-    next ≡ start + turns (drop start nodes) →
-    Turned nodes start stack (record { stack = stack / 4 * 4 + (stack % 4 + (next - start) % 4) % 4; next = next })
-unfolding view
-turned-by nodes start stack {next} l e =
-    let low : (stack / 4 * 4 + (stack % 4 + (next - start) % 4) % 4) % 4 ≡ (stack % 4 + (next - start) % 4) % 4 = omega arith in
-    let high : (stack / 4 * 4 + (stack % 4 + (next - start) % 4) % 4) / 4 ≡ stack / 4 = omega arith in
-    record {
-      ahead = turns-ahead nodes start e;
-      inside = turns-inside nodes start e l;
-      fits = λ h f. omega (arith, f, pow-suc 4 h);
-      same = λ s h.
-          turns-same nodes start e 16 s (fromNumber (stack % 4)) (view h (stack / 4))
-          ∙ (rw (low, high, turnedBy-rest (next - start) (fromNumber (stack % 4)), turnedBy-number ((next - start) % 4) (stack % 4) (omega arith)));
-    }
-
-pub turned-none : (nodes : List ℕ) (start stack : ℕ) → start ≤ length nodes → Turned nodes start stack (record { stack = stack; next = start })
-turned-none nodes start stack l = record { ahead = omega arith; inside = l; fits = λ h f. f; same = λ s h. refl }
+    -- a run may go on behind the turns that follow a column, with its answer turned so many times
+    pub run-past :
+        (node : Node) →
+        run profile s start (act s node stack) (drop start nodes)
+        ≡ run profile s (past node nodes start) (actTurned s node (past node nodes start - start) stack) (drop (past node nodes start) nodes)
+    unfolding past act actTurned
+    run-past (Constant a) = refl
+    run-past (Column k) = column-past (getD s k Silent) (start + turns (drop start nodes)) refl
+    run-past Negate = refl
+    run-past Turn = refl
+    run-past Meet = refl
+    run-past Join = refl
+    run-past Foreign = refl

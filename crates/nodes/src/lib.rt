@@ -4,28 +4,26 @@
 // It refuses first the situation (SITUATION: a length outside 1 to 6, else the first answer above 3), then the nodes from
 // left to right: a byte that is no node (NODE), a column that the situation has not (COLUMN), too few operands (UNDER), a
 // push onto a full stack (DEEP), each at the node's index; last a stack that does not hold exactly one answer (END, at the
-// array's length). `decode` and `past_turns`, which finds the end of a row of turns, refuse nothing.
+// array's length). What a node does to the stack's height is `climb`'s to say, for every machine; where a machine goes on
+// is `past`'s. These two and `decode` refuse nothing themselves.
 ghost use mathlib.Core.Path.{_≡_};
 ghost use mathlib.Core.List.{[]};
-ghost use Prim.Native.Nat.{_+_, _%_, _≤_};
-ghost use lib.ListN.{length, drop};
-ghost use Rattle.answers.specs.Meaning.{fromNumber};
+ghost use Prim.Native.Nat.{_+_, _*_, _/_, _%_, _<_};
+ghost use lib.ListN.{length, drop, getD};
+ghost use Rattle.answers.specs.Meaning.{number, fromNumber, applyOne, applyTwo, refuse};
 ghost use Rattle.situations.specs.Meaning.{answersOf};
-ghost use Rattle.nodes.specs.declared.Node.the-variants.{Column};
-ghost use Rattle.nodes.specs.Meaning.{nodeOf, turns, run, finish, evaluateOf};
-ghost use Rattle.nodes.specs.Inside.{Ready, Free, Small, Put, Pushed, Failed, Stepped, Turned, stackOf};
+ghost use Rattle.nodes.specs.Meaning.{nodeOf, full, to, climbPush, climbDown, climb, turns, past, finish, run, evaluateOf};
+ghost use Rattle.nodes.specs.Inside.{Ready, Small, Clear, Acted, stackOf};
 use answers::Answer;
 use answers::Reply;
 use answers::operators;
+use answers::operators::One;
+use answers::operators::Two;
 use refusals::COLUMN;
 use refusals::DEEP;
 use refusals::END;
 use refusals::NODE;
-use refusals::Refusal;
 use refusals::UNDER;
-
-// How many answers the stack holds.
-const HEIGHT: usize = 16;
 
 // A node's byte, sorted.
 pub enum Node {
@@ -38,18 +36,22 @@ pub enum Node {
     Foreign,
 }
 
+// What a machine allows: how many places its stack has, and whether it knows the join.
+pub struct Profile {
+    pub places: usize,
+    pub joins: bool,
+}
+
+// Where a node leads: the stack's height after it, or the number of a refusal, with height 0.
+pub struct Climbed {
+    pub height: usize,
+    pub fault: u8,
+}
+
 // The stack as one number in base 4, its top the lowest digit: sixteen answers take half of 64 bits.
-// The fault is the number of a refusal, or 0.
 struct Machine {
     stack: u64,
     height: usize,
-    fault: u8,
-}
-
-// Where a run goes on after turns that were done at once.
-struct Ahead {
-    stack: u64,
-    next: usize,
 }
 
 fn wide(x: u8) -> usize
@@ -59,8 +61,8 @@ fn wide(x: u8) -> usize
 }
 
 // What a byte stands for. A run over a compiled table meets columns most often, then meets; it does the turns behind a
-// column at once and seldom meets one by itself. Joins are asked for apart: four tests for equality in a row would become
-// a jump through a table, which takes more instructions.
+// column at once and seldom meets one by itself. No four tests for equality stand in a row: they would become a jump
+// through a table, which takes more instructions.
 pub fn decode(b: u8) -> Node
     ensures { λ r. ⌜ r ≡ nodeOf b ⌝ }
 {
@@ -82,109 +84,84 @@ pub fn decode(b: u8) -> Node
     if b == 4 {
         return Node::Negate;
     }
-    if b == 5 {
-        return Node::Turn;
+    if b < 4 {
+        return Node::Constant(answers::from_number(b));
     }
-    Node::Constant(answers::from_number(b))
+    Node::Turn
 }
 
-fn top(stack: u64) -> Answer
-    ensures { λ r. ⌜ r ≡ fromNumber (stack % 4) ⌝ }
+// Sixteen places and all nodes.
+pub fn full() -> Profile
+    ensures { λ r. ⌜ r ≡ full ⌝ }
 {
-    answers::from_number((stack % 4) as u8)
-}
-
-// An answer put onto a stack that has room.
-fn put(stack: u64, height: usize, a: Answer) -> Machine
-    requires { ⌜ Free stack height ⌝ }
-    ensures { λ r. ⌜ Put stack height a r ⌝ }
-{
-    let digit = answers::number(a) as u64;
-    let raised = stack * 4;
-    Machine {
-        stack: raised + digit,
-        height: height + 1,
-        fault: 0,
+    Profile {
+        places: 16,
+        joins: true,
     }
 }
 
-fn failed(fault: u8) -> Machine
-    ensures { λ r. ⌜ Failed fault r ⌝ }
+// The fault of a push, which needs room.
+fn push_fault(places: usize, height: usize) -> u8
+    ensures { λ r. ⌜ r ≡ climbPush places height .fault ⌝ }
 {
-    Machine {
-        stack: 0,
-        height: 0,
-        fault,
-    }
+    if height < places { 0 } else { DEEP }
 }
 
-// A push, which looks for room first.
-fn push(m: Machine, a: Answer) -> Machine
-    requires { ⌜ Ready m ⌝ }
-    ensures { λ r. ⌜ Pushed m a r ⌝ }
+// The fault of an operator, which needs one operand more than it leaves fewer.
+fn operand_fault(fewer: usize, height: usize) -> u8
+    ensures { λ r. ⌜ r ≡ climbDown fewer height .fault ⌝ }
 {
-    let height = m.height;
-    if height < HEIGHT {
-        put(m.stack, height, a)
-    } else {
-        failed(DEEP)
-    }
+    if fewer < height { 0 } else { UNDER }
 }
 
-// A column's answer pushed. It is read after the room is tested, which takes fewer instructions than before it.
-fn column(m: Machine, k: usize, situation: &[u8]) -> Machine
-    requires { ⌜ (Ready m) × (Small (now situation)) ⌝ }
-    ensures { λ r. ⌜ Stepped (answersOf (now (situation .entry))) (Column k) m r ⌝ }
+fn node_fault(node: Node, height: usize, columns: usize, profile: Profile) -> u8
+    ensures { λ r. ⌜ r ≡ climb profile columns node height .fault ⌝ }
 {
-    let height = m.height;
-    if k < situation.len() {
-        if height < HEIGHT {
-            // an answer is below 4, and its remainder needs no test for that
-            put(m.stack, height, answers::from_number(situation[k] % 4))
-        } else {
-            failed(DEEP)
-        }
-    } else {
-        failed(COLUMN)
-    }
-}
-
-// One node.
-fn step(m: Machine, node: Node, situation: &[u8]) -> Machine
-    requires { ⌜ (Ready m) × (Small (now situation)) ⌝ }
-    ensures { λ r. ⌜ Stepped (answersOf (now (situation .entry))) node m r ⌝ }
-{
-    let s = m.stack;
-    let h = m.height;
     match node {
-        Node::Turn => if 0 < h {
-            put(s / 4, h - 1, operators::turn(top(s)))
+        Node::Turn => operand_fault(0, height),
+        Node::Column(k) => if k < columns {
+            push_fault(profile.places, height)
         } else {
-            failed(UNDER)
+            COLUMN
         },
-        Node::Column(k) => column(m, k, situation),
-        Node::Meet => if 1 < h {
-            put(s / 16, h - 2, operators::meet(top(s / 4), top(s)))
+        Node::Meet => operand_fault(1, height),
+        Node::Join => if profile.joins {
+            operand_fault(1, height)
         } else {
-            failed(UNDER)
+            NODE
         },
-        Node::Join => if 1 < h {
-            put(s / 16, h - 2, operators::join(top(s / 4), top(s)))
-        } else {
-            failed(UNDER)
-        },
-        Node::Negate => if 0 < h {
-            put(s / 4, h - 1, operators::negate(top(s)))
-        } else {
-            failed(UNDER)
-        },
-        Node::Constant(a) => push(m, a),
-        Node::Foreign => failed(NODE),
+        Node::Negate => operand_fault(0, height),
+        Node::Constant(_) => push_fault(profile.places, height),
+        Node::Foreign => NODE,
     }
 }
 
-// The first place, from one on, where no turn stands: runs do turns at once, here and in all lanes of a word.
-pub fn past_turns(nodes: &[u8], from: usize) -> usize
+fn to(height: usize) -> Climbed
+    ensures { λ r. ⌜ r ≡ to height ⌝ }
+{
+    Climbed { height, fault: 0 }
+}
+
+// What a node does to the stack's height. The fault is found first and the height only behind it: in one match the
+// heights would be selected, which takes more instructions than a jump that is never taken.
+pub fn climb(node: Node, height: usize, columns: usize, profile: Profile) -> Climbed
+    ensures { λ r. ⌜ r ≡ climb profile columns node height ⌝ }
+{
+    let fault = node_fault(node, height, columns, profile);
+    if fault != 0 {
+        return Climbed { height: 0, fault };
+    }
+    match node {
+        Node::Column(_) => to(height + 1),
+        Node::Meet => to(height - 1),
+        Node::Join => to(height - 1),
+        Node::Constant(_) => to(height + 1),
+        _ => to(height),
+    }
+}
+
+// The first place, from one on, where no turn stands.
+fn past_turns(nodes: &[u8], from: usize) -> usize
     ensures { λ r. ⌜ r ≡ from + turns (drop from (now (nodes .entry))) ⌝ }
 {
     let mut at = from;
@@ -197,23 +174,86 @@ pub fn past_turns(nodes: &[u8], from: usize) -> usize
     at
 }
 
-// In a compiled table turns follow columns: they are counted, and done at once.
-fn turn_on(stack: u64, node: Node, nodes: &[u8], from: usize) -> Ahead
-    requires { ⌜ from ≤ length (now nodes) ⌝ }
-    ensures { λ r. ⌜ Turned (now (nodes .entry)) from stack r ⌝ }
+// Where a run goes on after the node before `from`: in a compiled table turns follow columns, and are done at once.
+pub fn past(node: Node, nodes: &[u8], from: usize) -> usize
+    ensures { λ r. ⌜ r ≡ past node (now (nodes .entry)) from ⌝ }
 {
     match node {
-        Node::Column(_) => {
-            let next = past_turns(nodes, from);
-            let turns = ((next - from) % 4) as u64;
-            let sum = stack % 4 + turns;
-            let rest = stack / 4 * 4;
-            Ahead {
-                stack: rest + sum % 4,
-                next,
-            }
-        }
-        _ => Ahead { stack, next: from },
+        Node::Column(_) => past_turns(nodes, from),
+        _ => from,
+    }
+}
+
+fn top(stack: u64) -> Answer
+    ensures { λ r. ⌜ r ≡ fromNumber (stack % 4) ⌝ }
+{
+    answers::from_number((stack % 4) as u8)
+}
+
+// An answer put onto the stack.
+fn put(stack: u64, a: Answer) -> u64
+    requires { ⌜ stack < 4294967296 ⌝ }
+    ensures { λ r. ⌜ r ≡ stack * 4 + number a ⌝ }
+{
+    let digit = answers::number(a) as u64;
+    let raised = stack * 4;
+    raised + digit
+}
+
+// A column's answer, turned so many times, put onto the stack. It is not made an answer in between, which would take
+// more instructions.
+fn put_column(stack: u64, situation: &[u8], k: usize, times: usize) -> u64
+    requires { ⌜ (stack < 4294967296) × (k < length (now situation)) ⌝ }
+    ensures { λ r. ⌜ r ≡ stack * 4 + (getD (now (situation .entry)) k 0 % 4 + times % 4) % 4 ⌝ }
+{
+    let digit = (situation[k] % 4) as u64;
+    let turns = (times % 4) as u64;
+    let sum = digit + turns;
+    let raised = stack * 4;
+    raised + sum % 4
+}
+
+// An operator's answer in place of its operands, which are on top of the stack.
+fn put_one(stack: u64, o: One) -> u64
+    requires { ⌜ stack < 4294967296 ⌝ }
+    ensures { λ r. ⌜ r ≡ stack / 4 * 4 + number (applyOne o (fromNumber (stack % 4))) ⌝ }
+{
+    put(stack / 4, operators::apply_one(o, top(stack)))
+}
+
+fn put_two(stack: u64, o: Two) -> u64
+    requires { ⌜ stack < 4294967296 ⌝ }
+    ensures { λ r. ⌜ r ≡ stack / 16 * 4 + number (applyTwo o (fromNumber (stack / 4 % 4)) (fromNumber (stack % 4))) ⌝ }
+{
+    put(
+        stack / 16,
+        operators::apply_two(o, top(stack / 4), top(stack)),
+    )
+}
+
+// The stack after a node that is not refused, and after so many turns behind it where it is a column.
+fn act(m: Machine, node: Node, situation: &[u8], times: usize) -> u64
+    requires { ⌜ (Ready m) × (Small (now situation)) × (Clear (length (now situation)) node (m .height)) ⌝ }
+    ensures { λ r. ⌜ Acted (answersOf (now (situation .entry))) node times m r ⌝ }
+{
+    let s = m.stack;
+    match node {
+        Node::Turn => put_one(s, One::Turn),
+        Node::Column(k) => put_column(s, situation, k, times),
+        Node::Meet => put_two(s, Two::Meet),
+        Node::Join => put_two(s, Two::Join),
+        Node::Negate => put_one(s, One::Negate),
+        Node::Constant(a) => put(s, a),
+        Node::Foreign => s,
+    }
+}
+
+fn refuse(number: u8, place: usize) -> Reply
+    ensures { λ r. ⌜ r ≡ refuse number place ⌝ }
+{
+    Reply {
+        refusal: refusals::refused(number, place),
+        answer: Answer::Silent,
     }
 }
 
@@ -223,58 +263,41 @@ fn finish(m: Machine, place: usize) -> Reply
 {
     if m.height == 1 {
         return Reply {
-            refusal: Refusal {
-                number: 0,
-                place: 0,
-                second: 0,
-            },
+            refusal: refusals::none(),
             answer: top(m.stack),
         };
     }
-    Reply {
-        refusal: Refusal {
-            number: END,
-            place,
-            second: 0,
-        },
-        answer: Answer::Silent,
-    }
+    refuse(END, place)
 }
 
 // The nodes from left to right.
 fn run(nodes: &[u8], situation: &[u8]) -> Reply
     requires { ⌜ Small (now situation) ⌝ }
-    ensures { λ r. ⌜ r ≡ run 16 (answersOf (now (situation .entry))) 0 [] (now (nodes .entry)) ⌝ }
+    ensures { λ r. ⌜ r ≡ run full (answersOf (now (situation .entry))) 0 [] (now (nodes .entry)) ⌝ }
 {
-    let mut machine = Machine {
+    let columns = situation.len();
+    let mut m = Machine {
         stack: 0,
         height: 0,
-        fault: 0,
     };
     let mut i = 0;
     while i < nodes.len() {
         let node = decode(nodes[i]);
-        let after = step(machine, node, situation);
-        let fault = after.fault;
+        let c = climb(node, m.height, columns, full());
+        let fault = c.fault;
         if fault != 0 {
-            return Reply {
-                refusal: Refusal {
-                    number: fault,
-                    place: i,
-                    second: 0,
-                },
-                answer: Answer::Silent,
-            };
+            return refuse(fault, i);
         }
-        let ahead = turn_on(after.stack, node, nodes, i + 1);
-        machine = Machine {
-            stack: ahead.stack,
-            height: after.height,
-            fault: 0,
+        let from = i + 1;
+        let next = past(node, nodes, from);
+        let stack = act(m, node, situation, next - from);
+        m = Machine {
+            stack,
+            height: c.height,
         };
-        i = ahead.next;
+        i = next;
     }
-    finish(machine, i)
+    finish(m, i)
 }
 
 // What the nodes answer at the situation.

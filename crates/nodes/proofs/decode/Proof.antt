@@ -1,4 +1,4 @@
-use Rattle.nodes.proofs.Decoding.{is-column, is-beyond, is-meet, is-join, is-between, is-negate, is-turn, is-constant}
+use Rattle.nodes.proofs.Decoding.{is-column, is-beyond, is-meet, is-join, is-between, is-negate, is-constant, is-turn}
 use borrow.Author.Needs.{needs}
 use Rattle.nodes.proofs.decode.Statement.{statement}
 use Rattle.nodes.proofs.decode.Tie as tie
@@ -22,10 +22,10 @@ returns-6 : tie.Need-returns-6
 returns-6 c = search (needs, is-negate)
 
 returns-7 : tie.Need-returns-7
-returns-7 c = search (needs, is-turn)
+returns-7 c = search (needs, is-constant)
 
 returns-8 : tie.Need-returns-8
-returns-8 c = search (needs, is-constant)
+returns-8 c = search (needs, is-turn)
 
 pub decode-spec : {M : Type 1} → statement M
 decode-spec =
@@ -39,6 +39,6 @@ decode-spec =
     returns-4
     returns-5
     returns-6
-    returns-7
     (λ c κs. search needs)
+    returns-7
     returns-8)

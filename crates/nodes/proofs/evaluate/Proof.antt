@@ -1,5 +1,4 @@
-use Rattle.nodes.proofs.Passing.{fault-small}
-use Rattle.nodes.proofs.Going.{evaluate-fault, evaluate-run}
+use Rattle.nodes.proofs.Evaluation.{small-checked, evaluate-fault, evaluate-run}
 use borrow.Author.Needs.{needs}
 use Rattle.nodes.proofs.evaluate.Statement.{statement}
 use Rattle.nodes.proofs.evaluate.Tie as tie
@@ -8,7 +7,7 @@ returns : tie.Need-returns
 returns c = search (needs, evaluate-fault)
 
 run-requires : tie.Need-run-requires
-run-requires c κs = search (needs, fault-small)
+run-requires c κs = search (needs, small-checked)
 
 returns-2 : tie.Need-returns-2
 returns-2 c = search (needs, evaluate-run)

@@ -1,4 +1,4 @@
-use Rattle.nodes.proofs.Going.{finish-one, finish-not}
+use Rattle.nodes.proofs.Evaluation.{finish-one, finish-not}
 use borrow.Author.Needs.{needs}
 use Rattle.nodes.proofs.finish.Statement.{statement}
 use Rattle.nodes.proofs.finish.Tie as tie
@@ -10,4 +10,11 @@ returns-2 : tie.Need-returns-2
 returns-2 c = search (needs, finish-not)
 
 pub finish-spec : {M : Type 1} → statement M
-finish-spec = tie.close (tie.spec (λ c κs. search needs) returns returns-2)
+finish-spec =
+    tie.close
+    (tie.spec
+    (λ c κs. search needs)
+    (λ c κs. search needs)
+    returns
+    (λ c κs. search needs)
+    returns-2)

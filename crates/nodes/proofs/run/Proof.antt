@@ -1,17 +1,17 @@
-use borrow.Author.Needs.{needs}
 use Prim.Native.Nat.{_-_}
 use lib.ListN.{length}
 use Rattle.situations.specs.Meaning.{answersOf}
 use Rattle.nodes.specs.Inside.{Running}
-use Rattle.nodes.proofs.Going.{running-none, running-turned, running-stopped, running-all}
+use Rattle.nodes.proofs.Evaluation.{running-none, running-ready, running-stopped, running-more, running-all, clear-made, next-ahead, next-less}
+use borrow.Author.Needs.{needs}
 use Rattle.nodes.proofs.run.Statement.{statement}
 use Rattle.nodes.proofs.run.Tie as tie
 
 abbrev Inv-loop : tie.InvT-loop
-Inv-loop nodes situation machine₀ i₀ machine i = Running nodes (answersOf situation) machine i
+Inv-loop nodes situation columns m₀ i₀ m i = Running nodes (answersOf situation) m i
 
 abbrev μ-loop : tie.MeasureT-loop
-μ-loop nodes situation machine₀ i₀ machine i = length nodes - i
+μ-loop nodes situation columns m₀ i₀ m i = length nodes - i
 
 loop-holds : tie.Need-loop-holds Inv-loop μ-loop
 loop-holds c = running-none _ _
@@ -19,8 +19,17 @@ loop-holds c = running-none _ _
 returns : tie.Need-returns Inv-loop μ-loop
 returns c = search (needs, running-stopped)
 
+sub-act : tie.Need-sub-act Inv-loop μ-loop
+sub-act c = search (needs, next-ahead)
+
+act-requires : tie.Need-act-requires Inv-loop μ-loop
+act-requires c κs = (search (needs, running-ready), search needs, search (needs, clear-made))
+
+loop-less : tie.Need-loop-less Inv-loop μ-loop
+loop-less c = search (needs, next-less)
+
 loop-again : tie.Need-loop-again Inv-loop μ-loop
-loop-again c = search (needs, running-turned)
+loop-again c = search (needs, running-more)
 
 returns-2 : tie.Need-returns-2 Inv-loop μ-loop
 returns-2 c = search (needs, running-all)
@@ -35,10 +44,14 @@ run-spec =
     (λ c. search needs)
     (λ c κs. search needs)
     (λ c κs. search needs)
+    (λ c κs. search needs)
+    (λ c κs. search needs)
     returns
     (λ c. search needs)
     (λ c κs. search needs)
-    (λ c. search needs)
+    sub-act
+    act-requires
+    loop-less
     loop-again
     (λ c κs. search needs)
     returns-2)

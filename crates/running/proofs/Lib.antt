@@ -1,0 +1,5 @@
+pub mod Heights
+pub mod Success
+pub mod Parts
+pub mod Leads
+pub mod Places
