@@ -3,17 +3,18 @@ use Prim.Native.Nat.{ℕ, zero, suc}
 use mathlib.Core.Path.{_≡_, refl, ap₂, sym, _∙_}
 use mathlib.Core.List.{List, [], _∷_}
 use lib.Dec.{T}
-use lib.ListN.{length, getD, set, replicate, length-set}
+use lib.ListN.{length, set, replicate, length-set}
 use native.Mathlib.Omega.{arith}
+use mathlib.Core.Logic.{_↔_}
 use Rattle.answers.specs.Meaning.{join, contained}
 use Rattle.answers.specs.declared.Answer.{Answer}
-use Rattle.answers.specs.declared.Answer.the-variants.{Silent, Bury, Keep, Clash}
-use Rattle.answers.proofs.Every.{each, all2}
+use Rattle.answers.specs.declared.Answer.the-variants.{Silent, Bury}
+use Rattle.answers.proofs.Every.{each, all2, all3}
 use Rattle.answers.proofs.Laws.{contained-order}
 use Rattle.situations.specs.Meaning.{merge, Within, raises, Step, Chain, here, step}
 use Rattle.situations.proofs.Merging.{merge-left, merge-right}
 use Rattle.situations.proofs.Steps.{step-within, within-chain}
-use Rattle.growing.specs.Meaning.{Grows, FailingStep}
+use Rattle.growing.specs.Meaning.{Grows, FailingStep, strictly, added, alone}
 
 -- every step keeps what was said
 abbrev pub StepsGrow : (List Answer → Answer) → ℕ → Type 0
@@ -54,16 +55,7 @@ pub grow-steps : (f : List Answer → Answer) (n : ℕ) → Grows f n → StepsG
 grow-steps f n g s column a e k =
     grow-within f n g s (set s column a) e (length-set s column a ∙ e) (step-within s column a k)
 
--- the claim that a step adds, alone
-abbrev pub added : Answer → Answer → Answer
-added Silent a = a
-added Bury a = Keep
-added Keep a = Bury
-added Clash a = Silent
-
-abbrev pub alone : List Answer → ℕ → Answer → List Answer
-alone s column a = set (replicate (length s) Silent) column (added (getD s column Silent) a)
-
+-- the claim that a step adds
 join-added : (x a : Answer) → T (raises x a) → join x (added x a) ≡ a
 join-added = all2 _ (search never)
 
@@ -90,3 +82,17 @@ pub failing-breaks :
     T (contained (f s) (f (merge s (alone s column a)))) →
     ⊥
 failing-breaks f s column a h g = h .lost (rw (merge-alone s column a (h .step)) at g)
+
+-- a step is a cover
+cover-raises : (a b : Answer) → T (strictly a b) → (T (strictly a Bury) → T (strictly Bury b) → ⊥) → T (raises a b)
+cover-raises = all2 _ (search tt)
+
+raises-strictly : (a b : Answer) → T (raises a b) → T (strictly a b)
+raises-strictly = all2 _ (search tt)
+
+raises-next : (a b c : Answer) → T (raises a b) → T (strictly a c) → T (strictly c b) → ⊥
+raises-next = all3 _ (search tt)
+
+pub raises-cover :
+    (a b : Answer) → T (raises a b) ↔ (T (strictly a b) × ((c : Answer) → T (strictly a c) → T (strictly c b) → ⊥))
+raises-cover a b = (λ r. (raises-strictly a b r, λ c. raises-next a b c r), λ h. cover-raises a b (h .0) (h .1 Bury))

@@ -1,28 +1,43 @@
 -- The search for the first failing step finds nothing exactly when no step fails, and else the first.
-use Prim.Native.Nat.{ℕ, _^_, _≤_, _<_}
-use mathlib.Core.Path.{_≡_}
-use mathlib.Core.Bool.{Bool, true, false, not, _&&_}
+use Prim.Native.Nat.{ℕ, zero, suc, _+_, _^_, _≤_, _<_}
+use mathlib.Core.Path.{_≡_, refl}
+use mathlib.Core.Logic.{⊎-elim}
+use mathlib.Core.Bool.{Bool, true, false, cond, not, _&&_}
 use mathlib.Core.List.{List}
 use lib.Dec.{T, ltb}
 use lib.ListN.{length, getD, set}
 use borrow.Author.Tests.{ltb-true, ltb-false}
-use native.Mathlib.Nat.{zero-add}
+use native.Mathlib.Nat.{zero-add, eq-or-lt-of-le}
 use native.Mathlib.Omega.{arith}
 use Rattle.answers.specs.Meaning.{number, fromNumber, contained}
 use Rattle.answers.specs.declared.Answer.{Answer}
 use Rattle.answers.specs.declared.Answer.the-variants.{Silent}
 use Rattle.answers.proofs.Claims.{number-from, from-number, number-small}
 use Rattle.situations.specs.Meaning.{index, situationAt, raises, Step}
-use Rattle.situations.proofs.Base4.{situationAt-length, situationAt-index, index-situationAt, index-small}
-use Rattle.growth.specs.Meaning.{fails, answerFails, firstAnswer, columnFails, firstColumn, situationFails, firstSituation}
-use Rattle.growth.proofs.Firsts.{first-passes, first-least}
+use Rattle.situations.proofs.Numbers.{situationAt-length, situationAt-index, index-situationAt, index-small}
+use Rattle.growth.specs.Meaning.{fails, firstFrom, answerFails, firstAnswer, columnFails, firstColumn, situationFails, firstSituation}
+use Rattle.growth.proofs.Firsts.{first-passes}
 use Rattle.growing.specs.Meaning.{FailingStep, Before, by-situation, by-column, by-answer}
 use Rattle.growing.proofs.Mergers.{StepsGrow}
 
--- from tests to facts
-is-true : (t : Bool) → t ≡ true → T t
-is-true t e = rw e tt
+-- no number before the first one that passes a test does
+least-now :
+    (test : ℕ → Bool) (k j next : ℕ) (t : Bool) →
+    test k ≡ t →
+    (suc k ≤ j → j < next → test j ≡ false) →
+    k ≤ j →
+    j < cond t k next →
+    test j ≡ false
+least-now test k j next true e h i l = absurd (omega arith)
+least-now test k j next false e h i l =
+    ⊎-elim (λ q. rw (← q) e) (λ q. h (omega (arith, q)) l) (eq-or-lt-of-le {n = k} {m = j} i)
 
+first-least : (test : ℕ → Bool) (count k j : ℕ) → k ≤ j → j < firstFrom test count k → test j ≡ false
+unfolding firstFrom
+first-least test zero k j h l = absurd (omega arith)
+first-least test (suc count) k j h l = least-now test k j (firstFrom test count (suc k)) (test k) refl (first-least test count (suc k) j) h l
+
+-- from tests to facts
 spared : (r c : Bool) → T r → r && not c ≡ false → T c
 spared true true h e = tt
 spared true false h e = absurd (let z : _≡_ {A = ℕ} 0 1 = cc in omega arith)

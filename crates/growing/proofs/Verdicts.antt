@@ -1,35 +1,30 @@
 -- What the check's verdict says of any array.
-use Prim.Native.Nat.{ℕ, zero, suc, _-_, _^_, _≤_, _<_}
-use mathlib.Core.Path.{_≡_, refl, ap, ap₂, subst, sym, _∙_}
+use Prim.Native.Nat.{ℕ, _^_, _<_}
+use mathlib.Core.Path.{_≡_, refl, ap, subst, sym, _∙_}
 use mathlib.Core.Logic.{_↔_}
 use mathlib.Core.Bool.{Bool, true, false, cond}
-use mathlib.Core.List.{List, [], _∷_, map}
+use mathlib.Core.List.{List}
 use lib.Dec.{ltb, eqb}
-use lib.ListN.{length, replicate, length-map, length-replicate}
-use lib.Seq.{take-at}
+use lib.ListN.{length, replicate, length-replicate}
 use borrow.Author.Tests.{ltb-true, ltb-false, eqb-true, eq-eqb}
 use native.Mathlib.Omega.{arith}
 use Rattle.refusals.specs.Meaning.{none}
-use Rattle.answers.specs.Meaning.{number, fromNumber, firstAbove}
+use Rattle.answers.specs.Meaning.{fromNumber}
 use Rattle.answers.specs.declared.Answer.{Answer}
 use Rattle.answers.specs.declared.Reply.{Reply}
-use Rattle.answers.proofs.Claims.{number-from}
-use Rattle.situations.specs.Meaning.{answersOf, columns, fault, situationAt}
-use Rattle.situations.proofs.Base4.{situationAt-length}
+use Rattle.answers.proofs.Claims.{from-number}
+use Rattle.situations.specs.Meaning.{fault, situationAt}
+use Rattle.situations.proofs.Numbers.{situationAt-length}
+use Rattle.situations.proofs.Faults.{fault-columns}
+use Rattle.situations.proofs.Silent.{silent-sound}
 use Rattle.nodes.specs.Meaning.{evaluateOf}
-use Rattle.nodes.proofs.Alike.{evaluate-alike}
-use Rattle.nodes.proofs.Deeper.{evaluate-fine}
-use Rattle.nodes.proofs.Passing.{fault-columns}
+use Rattle.running.proofs.Heights.{evaluate-alike}
+use Rattle.running.proofs.Success.{evaluate-fine}
 use Rattle.growth.specs.declared.Growth.{Growth}
-use Rattle.growth.specs.Meaning.{answerAt, firstColumn, firstAnswer, firstSituation, without, spelledOf, shown, growthOf}
-use Rattle.growing.specs.Meaning.{Grows, FailingStep, FirstFailing}
+use Rattle.growth.specs.Meaning.{answerAt, firstColumn, firstAnswer, firstSituation, without, shown, growthOf}
+use Rattle.growing.specs.Meaning.{Grows, FailingStep, Shows}
 use Rattle.growing.proofs.Mergers.{steps-grow, grow-steps}
-use Rattle.growing.proofs.Searches.{none-grows, found-fails, found-first}
-
--- what an array answers at a situation is what the evaluator replies there
-pub answerAt-evaluate : (nodes s : List ℕ) → fault s .number ≡ 0 → answerAt nodes (answersOf s) ≡ evaluateOf nodes s .answer
-unfolding evaluateOf
-answerAt-evaluate nodes s h = rw (eq-eqb (fault s .number) 0 h)
+use Rattle.growing.proofs.Searches.{none-grows, found-fails, found-first, answer-below}
 
 -- the reply of an array that evaluates
 module _ (nodes : List ℕ) (n : ℕ) where
@@ -97,15 +92,6 @@ module _ (nodes : List ℕ) (n : ℕ) where
     pub yes-exactly : (growthOf nodes n .verdict ≡ 1) ↔ Grows (answerAt nodes) n
     yes-exactly = (yes-grows, grows-yes)
 
--- the six bytes show the situation again
-fromNumbers : (s : List Answer) → answersOf (map number s) ≡ s
-fromNumbers [] = refl
-fromNumbers (a ∷ s) = ap₂ (λ b l. b ∷ l) (number-from a) (fromNumbers s)
-
-pub spelled-columns : (s : List Answer) → columns (record { length = length s; answers = spelledOf s }) ≡ s
-spelled-columns s =
-    ap answersOf (take-at (map number s) (replicate (6 - length s) 0) (length s) (length-map s number)) ∙ fromNumbers s
-
 -- "A no is a true witness, and the first."
 module _ (nodes : List ℕ) (n : ℕ) (v : growthOf nodes n .verdict ≡ 2) where
   no-shown :
@@ -127,15 +113,16 @@ module _ (nodes : List ℕ) (n : ℕ) (v : growthOf nodes n .verdict ≡ 2) wher
       go true e = (ltb-true (firstSituation (answerAt nodes) n) (4 ^ n) e, rw e at (verdict-fine nodes n fine))
       go false e = absurd (let z : _≡_ {A = ℕ} 1 2 = rw e at v′ in omega arith)
 
-  pub no-first :
-      FirstFailing (answerAt nodes) n (columns (growthOf nodes n .situation)) (growthOf nodes n .column) (fromNumber (growthOf nodes n .answer))
+  pub no-first : Shows (answerAt nodes) n (growthOf nodes n)
   no-first =
-      subst (λ (g : Growth). FirstFailing (answerAt nodes) n (columns (g .situation)) (g .column) (fromNumber (g .answer)))
-      (sym (no-shown .1))
-      (subst
-      (λ (t : List Answer). FirstFailing f n t (firstColumn f s) (fromNumber (firstAnswer f s (firstColumn f s))))
-      (sym (spelled-columns s))
-      (record { long = situationAt-length n w; fails = found-fails f n (no-shown .0); first = found-first f n (no-shown .0) }))
+      subst (Shows f n) (sym (no-shown .1))
+      (record {
+        situation = s;
+        answer = fromNumber (firstAnswer f s (firstColumn f s));
+        told-situation = refl;
+        told-answer = sym (from-number (firstAnswer f s (firstColumn f s)) (let l = answer-below f n (no-shown .0) in omega arith));
+        first = record { long = situationAt-length n w; fails = found-fails f n (no-shown .0); first = found-first f n (no-shown .0) };
+      })
     where
       f : List Answer → Answer
       f = answerAt nodes
@@ -147,17 +134,6 @@ module _ (nodes : List ℕ) (n : ℕ) (v : growthOf nodes n .verdict ≡ 2) wher
       s = situationAt n (firstSituation (answerAt nodes) n)
 
 -- the check's refusal is the evaluator's
-silent-passes : (n : ℕ) → 1 ≤ n → n ≤ 6 → fault (replicate n 0) .number ≡ 0
-unfolding fault firstAbove
-silent-passes zero k l = absurd (omega arith)
-silent-passes (suc zero) k l = refl
-silent-passes (suc (suc zero)) k l = refl
-silent-passes (suc (suc (suc zero))) k l = refl
-silent-passes (suc (suc (suc (suc zero)))) k l = refl
-silent-passes (suc (suc (suc (suc (suc zero))))) k l = refl
-silent-passes (suc (suc (suc (suc (suc (suc zero)))))) k l = refl
-silent-passes (suc (suc (suc (suc (suc (suc (suc n))))))) k l = absurd (omega arith)
-
 cond-refusal : (t : Bool) (x y : Growth) → x .refusal ≡ none → y .refusal ≡ none → cond t x y .refusal ≡ none
 cond-refusal true x y a b = a
 cond-refusal false x y a b = b
@@ -182,6 +158,6 @@ pub growth-refusal :
 growth-refusal nodes s h =
     growth-silent nodes (length s)
     ∙ evaluate-alike nodes (replicate (length s) 0) s
-    (silent-passes (length s) (fault-columns s h .0) (fault-columns s h .1))
+    (rw (silent-sound (length s) (fault-columns s h .0) (fault-columns s h .1)))
     h
     (length-replicate {A = ℕ} (length s) 0)

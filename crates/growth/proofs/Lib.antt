@@ -1,6 +1,8 @@
-pub mod Raising
-pub mod Trying
-pub mod Looking
 pub mod Firsts
-pub mod Alike
-pub mod Showing
+pub mod WordSteps
+pub mod WordPassed
+pub mod Reached
+pub mod FirstAnswer
+pub mod FirstSituation
+pub mod SameAnswers
+pub mod CheckReply

@@ -1,21 +1,21 @@
 -- The growth check: the first step after which an array's answer does not contain the answer before.
-use Prim.Native.Nat.{ℕ, zero, suc, _-_, _^_}
+use Prim.Native.Nat.{ℕ, zero, suc, _^_}
 use mathlib.Core.Bool.{Bool, cond, not, _&&_}
-use mathlib.Core.List.{List, [], _++_, map}
+use mathlib.Core.List.{List, []}
 use lib.Dec.{ltb}
 use lib.ListN.{length, getD, set, replicate}
 use Rattle.refusals.specs.Meaning.{none, after}
 use Rattle.refusals.specs.declared.Refusal.{Refusal}
-use Rattle.answers.specs.Meaning.{number, fromNumber, contained}
+use Rattle.answers.specs.Meaning.{fromNumber, contained}
 use Rattle.answers.specs.declared.Answer.{Answer}
 use Rattle.answers.specs.declared.Answer.the-variants.{Silent}
-use Rattle.situations.specs.Meaning.{situationAt, raises}
-use Rattle.nodes.specs.Meaning.{run, evaluateOf}
+use Rattle.situations.specs.Meaning.{situationAt, byValue, raises}
+use Rattle.nodes.specs.Meaning.{full, run, evaluateOf}
 use Rattle.growth.specs.declared.Growth.{Growth}
 
 -- What an array answers at a situation of 1 to 6 columns.
 abbrev pub answerAt : List ℕ → List Answer → Answer
-answerAt nodes s = run 16 s 0 [] nodes .answer
+answerAt nodes s = run full s 0 [] nodes .answer
 
 -- "A step raises one column": it fails where the answer before is not contained in the answer after.
 abbrev pub fails : (List Answer → Answer) → List Answer → ℕ → Answer → Bool
@@ -50,11 +50,7 @@ firstSituation f n = firstFrom (situationFails f n) (4 ^ n) 0
 -- "Any other result number 0, neither yes nor no from the growth check."
 abbrev pub without : Refusal → ℕ → Growth
 without refusal verdict =
-    record { refusal = refusal; verdict = verdict; situation = record { length = 0; answers = replicate 6 0 }; column = 0; answer = 0 }
-
--- The six bytes of a situation by value: its answers, then 0.
-abbrev pub spelledOf : List Answer → List ℕ
-spelledOf s = map number s ++ replicate (6 - length s) 0
+    record { refusal = refusal; verdict = verdict; situation = byValue []; column = 0; answer = 0 }
 
 -- "A no shows the first failing step", here from the situation s.
 abbrev pub shown : (List Answer → Answer) → List Answer → Growth
@@ -62,7 +58,7 @@ shown f s =
     record {
       refusal = none;
       verdict = 2;
-      situation = record { length = length s; answers = spelledOf s };
+      situation = byValue s;
       column = firstColumn f s;
       answer = firstAnswer f s (firstColumn f s);
     }

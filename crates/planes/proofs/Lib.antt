@@ -1,8 +1,9 @@
-pub mod Bitwise
+pub mod Pairs
+pub mod Placing
 pub mod Columns
 pub mod Acting
-pub mod Turning
-pub mod Lapping
-pub mod Weights
+pub mod NodeLoop
+pub mod Extents
 pub mod Filling
-pub mod Blocks
+pub mod Words
+pub mod Lanes

@@ -3,145 +3,164 @@ use Prim.Native.Nat.{ℕ, zero, suc, _+_, _-_, _*_, _/_, _%_, _^_, _≤_, _<_}
 use mathlib.Core.Path.{_≡_}
 use mathlib.Core.Bool.{cond}
 use mathlib.Core.List.{List, [], _∷_}
-use lib.Dec.{eqb}
+use lib.Bits.{bitAnd}
+use lib.Dec.{ltb}
 use lib.ListN.{length, drop, getD}
-use Rattle.refusals.specs.Meaning.{refused}
+use Rattle.words.specs.Meaning.{bit}
 use Rattle.refusals.specs.declared.Refusal.{Refusal}
 use Rattle.answers.specs.Meaning.{fromNumber}
 use Rattle.answers.specs.declared.Answer.{Answer}
-use Rattle.answers.specs.declared.Answer.the-variants.{Silent}
-use Rattle.answers.specs.declared.Reply.{Reply}
-use Rattle.situations.specs.Meaning.{situationAt}
+use Rattle.situations.specs.Meaning.{digit, situationAt}
 use Rattle.nodes.specs.declared.Node.{Node}
-use Rattle.nodes.specs.Meaning.{After, onward, stopped, push, step, run}
-use Rattle.planes.specs.declared.Ahead.{Ahead}
-use Rattle.planes.specs.declared.Planes.{Planes}
-use Rattle.planes.specs.declared.Move.{Move}
-use Rattle.planes.specs.declared.Word.{Word}
+use Rattle.nodes.specs.Meaning.{full, climb, heights, run}
+use Rattle.nodes.specs.Inside.{turnedBy, actTurned}
+use Rattle.planes.specs.declared.Extent.{Extent}
+use Rattle.planes.specs.declared.Pair.{Pair}
 use Rattle.planes.specs.Meaning.{answerAt}
 
-abbrev pub bit : ℕ → ℕ → ℕ
-bit x w = w / 2 ^ x % 2
+-- the answer in a lane of two words
+abbrev pub pair : ℕ → ℕ → ℕ → Answer
+pair x bury keep = fromNumber (bit x bury + 2 * bit x keep)
 
--- the answer in a lane
-abbrev pub lane : ℕ → Planes → Answer
-lane x p = fromNumber (bit x (p .bury) + 2 * bit x (p .keep))
+-- the same of two words by value, and of those at a place
+abbrev pub inPair : Pair → ℕ → Answer
+inPair p x = pair x (p .bury) (p .keep)
 
-pub record Whole (a : Answer) (r : Planes) : Type 0 where
-  pub same : (x : ℕ) → x < 64 → lane x r ≡ a
+abbrev pub held : List ℕ → List ℕ → ℕ → ℕ → Answer
+held bury keep j x = pair x (getD bury j 0) (getD keep j 0)
 
-pub record One (f : Answer → Answer) (p r : Planes) : Type 0 where
-  pub same : (x : ℕ) → x < 64 → lane x r ≡ f (lane x p)
+pub record Whole (a : Answer) (r : Pair) : Type 0 where
+  pub same : (x : ℕ) → x < 64 → inPair r x ≡ a
 
-pub record Two (f : Answer → Answer → Answer) (p q r : Planes) : Type 0 where
-  pub same : (x : ℕ) → x < 64 → lane x r ≡ f (lane x p) (lane x q)
+pub record Turned (turns : ℕ) (p r : Pair) : Type 0 where
+  pub same : (x : ℕ) → x < 64 → inPair r x ≡ turnedBy turns (inPair p x)
 
-pub record Digit (word e : ℕ) (r : Planes) : Type 0 where
-  pub same : (x : ℕ) → x < 64 → lane x r ≡ fromNumber ((word * 64 + x) / 4 ^ e % 4)
+pub record Low (e : ℕ) (r : Pair) : Type 0 where
+  pub same : (x : ℕ) → x < 64 → inPair r x ≡ fromNumber (digit x e)
 
--- the upper two of a stack, in a lane
-pub record Tops (x h : ℕ) (top second : Planes) (stack : List Answer) : Type 0 where
-  pub tall : length stack ≡ h
-  pub first : 0 < h → getD stack 0 Silent ≡ lane x top
-  pub next : 1 < h → getD stack 1 Silent ≡ lane x second
+-- Two lists of words hold a stack: its places are 16 words each, and lane x of word k is one situation's in all of them.
+-- So many words from one on have the answers g, and all others are as they were.
+pub record Placed (g : ℕ → ℕ → Answer) (start count : ℕ) (bury keep bury′ keep′ : List ℕ) : Type 0 where
+  pub buries : length bury′ ≡ length bury
+  pub keeps : length keep′ ≡ length keep
+  pub written : (k x : ℕ) → k < count → x < 64 → held bury′ keep′ (start + k) x ≡ g k x
+  pub buried : (j : ℕ) → (start ≤ j → start + count ≤ j) → getD bury′ j 0 ≡ getD bury j 0
+  pub kept : (j : ℕ) → (start ≤ j → start + count ≤ j) → getD keep′ j 0 ≡ getD keep j 0
 
-abbrev pub settle : ℕ → List Answer → After
-settle fault stack = cond (eqb fault 0) (onward stack) (stopped fault)
+-- what stands there then: two words everywhere, four words each that are spread by ones or by fours, a digit, a column
+unfoldable pub laid : Pair → ℕ → ℕ → Answer
+laid p k x = inPair p x
 
-pub record Failed (number : ℕ) (r : Move) : Type 0 where
-  pub told : r .fault ≡ number
-  pub low : r .height ≡ 1
+unfoldable pub spreadOut : ℕ → List ℕ → List ℕ → ℕ → ℕ → Answer
+spreadOut shift bury keep k x = held bury keep (k / 2 ^ shift % 4) x
 
-pub record Moved (planes : Planes) (height : ℕ) (r : Move) : Type 0 where
-  pub sound : r .fault ≡ 0
-  pub high : r .height ≡ height
-  pub same : (x : ℕ) → lane x (r .planes) ≡ lane x planes
+unfoldable pub digits : ℕ → ℕ → ℕ → ℕ → Answer
+digits shift d k x = fromNumber ((d + k / 2 ^ shift) % 4)
 
--- a push onto a full stack is the refusal DEEP
-pub record Pushed (planes : Planes) (height : ℕ) (r : Move) : Type 0 where
-  pub filled : 0 < r .height
-  pub room : r .height ≤ 16
-  pub upto : r .height ≤ suc height
-  pub does :
-      (x : ℕ) (a : Answer) (stack : List Answer) →
-      lane x planes ≡ a →
-      length stack ≡ height →
-      settle (r .fault) (lane x (r .planes) ∷ drop (suc height - r .height) stack) ≡ push 16 a stack
+unfoldable pub columnOf : ℕ → ℕ → ℕ → ℕ → ℕ → Answer
+columnOf first e turns k x = turnedBy turns (fromNumber (digit ((first + k) * 64 + x) e))
 
-pub record Acted (node : Node) (h : ℕ) (top second : Planes) (word n : ℕ) (r : Move) : Type 0 where
-  pub filled : 0 < r .height
-  pub room : r .height ≤ 16
-  pub upto : r .height ≤ suc h
-  pub does :
-      (x : ℕ) →
+-- and what an operator makes of the words of one place, or of a place and the one above it
+unfoldable pub one : (Answer → Answer) → List ℕ → List ℕ → ℕ → ℕ → ℕ → Answer
+one f bury keep start k x = f (held bury keep (start + k) x)
+
+unfoldable pub two : (Answer → Answer → Answer) → List ℕ → List ℕ → ℕ → ℕ → ℕ → Answer
+two f bury keep start k x = f (held bury keep (start + k) x) (held bury keep (start + 16 + k) x)
+
+-- sixteen places, and among their words so many from one on
+pub record Ready (bury keep : List ℕ) (start count : ℕ) : Type 0 where
+  pub buries : length bury ≡ 256
+  pub keeps : length keep ≡ 256
+  pub room : start + count ≤ 256
+
+-- a lane's stack, its top first
+unfoldable pub view : ℕ → ℕ → List ℕ → List ℕ → ℕ → List Answer
+view k x bury keep zero = []
+view k x bury keep (suc height) = held bury keep (height * 16 + k) x ∷ view k x bury keep height
+
+-- the situation of a lane, in the words from one on
+abbrev pub laneAt : ℕ → ℕ → ℕ → ℕ → List Answer
+laneAt columns first k x = situationAt columns ((first + k) * 64 + x)
+
+-- a node that is not refused, on a stack of this height
+pub record Acting (columns : ℕ) (node : Node) (height : ℕ) (bury keep : List ℕ) : Type 0 where
+  pub buries : length bury ≡ 256
+  pub keeps : length keep ≡ 256
+  pub room : height ≤ 16
+  pub clear : climb full columns node height .fault ≡ 0
+
+-- the stack of each lane after it, and after so many turns behind it where it is a column
+pub record Acted (columns first : ℕ) (node : Node) (turns height : ℕ) (bury keep bury′ keep′ : List ℕ) : Type 0 where
+  pub buries : length bury′ ≡ length bury
+  pub keeps : length keep′ ≡ length keep
+  pub holds :
+      (k x : ℕ) →
+      k < 16 →
       x < 64 →
-      (stack : List Answer) →
-      Tops x h top second stack →
-      settle (r .fault) (lane x (r .planes) ∷ drop (suc h - r .height) stack) ≡ step 16 (situationAt n (word * 64 + x)) node stack
+      view k x bury′ keep′ (climb full columns node height .height)
+      ≡ actTurned (laneAt columns first k x) node turns (view k x bury keep height)
 
--- turns that are done at once: in each lane a run goes on behind them, with its top turned
-pub record Turned (nodes : List ℕ) (start : ℕ) (planes : Planes) (r : Ahead) : Type 0 where
-  pub ahead : start ≤ r .next
-  pub inside : r .next ≤ length nodes
-  pub same :
-      (x : ℕ) →
-      x < 64 →
-      (s stack : List Answer) →
-      run 16 s start (lane x planes ∷ stack) (drop start nodes) ≡ run 16 s (r .next) (lane x (r .planes) ∷ stack) (drop (r .next) nodes)
-
--- a lane's stack, its top first: two places below it are never part of it
-unfoldable pub view : ℕ → List Planes → ℕ → List Answer
-view x cells zero = []
-view x cells (suc h) = lane x (getD cells (h + 2) (record { bury = 0; keep = 0 })) ∷ view x cells h
-
-pub record Running (nodes : List ℕ) (word n : ℕ) (cells : List Planes) (h i : ℕ) : Type 0 where
+-- i nodes are done: in each lane, what is left to run from here is the whole run
+pub record Running (nodes : List ℕ) (columns first : ℕ) (bury keep : List ℕ) (height i : ℕ) : Type 0 where
   pub inside : i ≤ length nodes
-  pub room : h ≤ 16
-  pub size : length cells ≡ 18
+  pub room : height ≤ 16
+  pub buries : length bury ≡ 256
+  pub keeps : length keep ≡ 256
   pub rest :
-      (x : ℕ) →
+      (k x : ℕ) →
+      k < 16 →
       x < 64 →
-      run 16 (situationAt n (word * 64 + x)) i (view x cells h) (drop i nodes) ≡ run 16 (situationAt n (word * 64 + x)) 0 [] nodes
+      run full (laneAt columns first k x) i (view k x bury keep height) (drop i nodes) ≡ run full (laneAt columns first k x) 0 [] nodes
 
--- what a lane of a word replies
-abbrev pub replyAt : ℕ → Word → Reply
-replyAt x r = record { refusal = r .refusal; answer = lane x (r .planes) }
+-- the lowest place has the answers, or the array is refused
+pub record Ran (nodes : List ℕ) (columns first : ℕ) (bury keep : List ℕ) (r : Refusal) : Type 0 where
+  pub buries : length bury ≡ 256
+  pub keeps : length keep ≡ 256
+  pub told : r ≡ heights full columns 0 0 nodes
+  pub answered : r .number ≡ 0 → (k x : ℕ) → k < 16 → x < 64 → held bury keep k x ≡ run full (laneAt columns first k x) 0 [] nodes .answer
 
-pub record RefusedWord (number place : ℕ) (r : Word) : Type 0 where
-  pub told : r .refusal ≡ refused number place
-  pub silent : (x : ℕ) → x < 64 → lane x (r .planes) ≡ Silent
+-- how many words there are, how many a pass has, and which of their lanes are situations
+pub record Within (columns : ℕ) (e : Extent) : Type 0 where
+  pub some : 0 < e .count
+  pub most : e .count ≤ 16
+  pub all : e .total ≤ 64
+  pub steps : (done : ℕ) → done % 16 ≡ 0 → done < e .total → done + e .count ≤ e .total
+  pub next : (done : ℕ) → done % 16 ≡ 0 → done + e .count < e .total → (done + e .count) % 16 ≡ 0
+  pub lanes : (k x : ℕ) → k < e .total → x < 64 → bit x (e .lanes) ≡ cond (ltb (k * 64 + x) (4 ^ columns)) 1 0
+  pub small : e .lanes < 18446744073709551616
+  pub beyond : 4 ^ columns ≤ e .total * 64
 
-pub record Ran (nodes : List ℕ) (word n : ℕ) (r : Word) : Type 0 where
-  pub same : (x : ℕ) → x < 64 → replyAt x r ≡ run 16 (situationAt n (word * 64 + x)) 0 [] nodes
-
--- lanes written from a place on, all else as it was
-pub record Unpacked (p : Planes) (count : ℕ) (old : List ℕ) (start : ℕ) (new : List ℕ) : Type 0 where
+-- so many words, without the lanes that are no situations, written from a place on, all else as it was
+pub record Stored (words : List ℕ) (lanes count start : ℕ) (old new : List ℕ) : Type 0 where
   pub size : length new ≡ length old
-  pub written : (x : ℕ) → x < count → getD new (start + x) 0 ≡ bit x (p .bury) + 2 * bit x (p .keep)
-  pub before : (y : ℕ) → y < start → getD new y 0 ≡ getD old y 0
-  pub behind : (y : ℕ) → start + count ≤ y → getD new y 0 ≡ getD old y 0
+  pub written : (k : ℕ) → k < count → getD new (start + k) 0 ≡ bitAnd (getD words k 0) lanes
+  pub kept : (j : ℕ) → (start ≤ j → start + count ≤ j) → getD new j 0 ≡ getD old j 0
 
--- so many lanes of each word, and a word for each 64 situations
-pub record Lanes (n count : ℕ) : Type 0 where
-  pub some : 0 < count
-  pub most : count ≤ 64
-  pub steps : (done : ℕ) → done < 4 ^ n → done % 64 ≡ 0 → done + count ≤ 4 ^ n
-  pub next : (done : ℕ) → done % 64 ≡ 0 → done + count < 4 ^ n → (done + count) % 64 ≡ 0
+-- so many words have the answers, and the others are 0
+pub record Filled (nodes : List ℕ) (columns done : ℕ) (bury keep : List ℕ) : Type 0 where
+  pub buries : length bury ≡ 64
+  pub keeps : length keep ≡ 64
+  pub answered : (k x : ℕ) → k < done → x < 64 → held bury keep k x ≡ answerAt nodes columns (k * 64 + x)
+  pub low : (k : ℕ) → k < done → getD bury k 0 < 18446744073709551616
+  pub high : (k : ℕ) → k < done → getD keep k 0 < 18446744073709551616
+  pub buried : (k : ℕ) → done ≤ k → getD bury k 0 ≡ 0
+  pub kept : (k : ℕ) → done ≤ k → getD keep k 0 ≡ 0
 
--- the first so many places of a block have their answers, and the others are 0
-pub record Filled (nodes : List ℕ) (n done : ℕ) (block : List ℕ) : Type 0 where
-  pub size : length block ≡ 4096
-  pub answered : (w : ℕ) → w < done → getD block w 0 ≡ answerAt nodes n w
-  pub empty : (w : ℕ) → done ≤ w → getD block w 0 ≡ 0
+-- passes are done, and none was refused
+pub record Filling (nodes : List ℕ) (columns : ℕ) (e : Extent) (done : ℕ) (bury keep : List ℕ) : Type 0 where
+  pub within : Within columns e
+  pub filled : Filled nodes columns done bury keep
+  pub inside : done ≤ e .total
+  pub aligned : done < e .total → done % 16 ≡ 0
+  pub fine : 0 < done → heights full columns 0 0 nodes .number ≡ 0
 
--- the block is whole, or the array is refused
-pub record Answered (nodes : List ℕ) (n : ℕ) (block : List ℕ) (r : Refusal) : Type 0 where
-  pub told : r ≡ run 16 (situationAt n 0) 0 [] nodes .refusal
-  pub whole : r .number ≡ 0 → Filled nodes n (4 ^ n) block
+-- one pass more, or the array is refused
+pub record Passed (nodes : List ℕ) (columns done count : ℕ) (bury keep : List ℕ) (r : Refusal) : Type 0 where
+  pub told : r ≡ heights full columns 0 0 nodes
+  pub filled : r .number ≡ 0 → Filled nodes columns (done + count) bury keep
 
--- so many answers are in the block
-pub record Filling (nodes : List ℕ) (n done : ℕ) (block : List ℕ) : Type 0 where
-  pub filled : Filled nodes n done block
-  pub inside : done ≤ 4 ^ n
-  pub aligned : done < 4 ^ n → done % 64 ≡ 0
-  pub fine : 0 < done → run 16 (situationAt n 0) 0 [] nodes .refusal .number ≡ 0
+-- all passes, or the array is refused
+pub record Answered (nodes : List ℕ) (columns : ℕ) (bury keep : List ℕ) (r : Refusal) : Type 0 where
+  pub told : (r .number ≡ 0 → ⊥) → r ≡ heights full columns 0 0 nodes
+  pub fine : r .number ≡ 0 → heights full columns 0 0 nodes .number ≡ 0
+  pub whole : r .number ≡ 0 → Filled nodes columns 64 bury keep

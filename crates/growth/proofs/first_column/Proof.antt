@@ -2,16 +2,16 @@ use borrow.Author.Needs.{needs}
 use Prim.Native.Nat.{_-_}
 use Rattle.situations.specs.Meaning.{situationAt}
 use Rattle.growth.specs.Meaning.{columnFails}
-use Rattle.growth.specs.Inside.{inBlock, Looking}
-use Rattle.growth.proofs.Looking.{column-none, column-more, column-found, column-all}
+use Rattle.growth.specs.Inside.{inWords, Looking}
+use Rattle.growth.proofs.FirstSituation.{column-none, column-more, column-found, column-all}
 use Rattle.growth.proofs.first_column.Statement.{statement}
 use Rattle.growth.proofs.first_column.Tie as tie
 
 abbrev Inv-loop : tie.InvT-loop
-Inv-loop block n w column₀ column = Looking (columnFails (inBlock block) (situationAt n w)) n column
+Inv-loop bury keep n w column₀ column = Looking (columnFails (inWords bury keep) (situationAt n w)) 0 n column
 
 abbrev μ-loop : tie.MeasureT-loop
-μ-loop block n w column₀ column = n - column
+μ-loop bury keep n w column₀ column = n - column
 
 loop-holds : tie.Need-loop-holds Inv-loop μ-loop
 loop-holds c = column-none _ _ _

@@ -9,9 +9,7 @@ pub grows-spec : {M : Type 1} → statement M
 grows-spec =
     tie.close
     (tie.spec
-    (λ c. search needs)
     (λ c κs. search needs)
-    (λ c. search needs)
     (λ c κs. search needs)
     (λ c κs. search needs)
     returns)

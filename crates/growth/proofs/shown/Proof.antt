@@ -1,4 +1,4 @@
-use Rattle.growth.proofs.Showing.{shown-at, shown-made}
+use Rattle.growth.proofs.CheckReply.{shown-at, shown-made}
 use borrow.Author.Needs.{needs}
 use Rattle.growth.proofs.shown.Statement.{statement}
 use Rattle.growth.proofs.shown.Tie as tie
@@ -11,4 +11,5 @@ returns c = search (needs, shown-made)
 
 pub shown-spec : {M : Type 1} → statement M
 shown-spec =
-    tie.close (tie.spec (λ c κs. search needs) first-answer-requires (λ c κs. search needs) returns)
+    tie.close
+    (tie.spec (λ c κs. search needs) first-answer-requires (λ c κs. search needs) (λ c κs. search needs) returns)

@@ -1,86 +1,100 @@
-use Rattle.planes.proofs.Acting.{act-turn, act-no-turn, act-column, act-no-column, act-meet, act-no-meet, act-join, act-no-join, act-negate, act-no-negate, act-constant, act-foreign}
+use Rattle.planes.proofs.Acting.{clear-turn, clear-negate, clear-meet, clear-join, column-some, column-digit, ready-column, ready-constant}
+use Rattle.planes.proofs.Acting.{act-constant, act-column, act-negate, act-turn, act-meet, act-join, act-foreign}
 use borrow.Author.Needs.{needs}
 use Rattle.planes.proofs.act.Statement.{statement}
 use Rattle.planes.proofs.act.Tie as tie
+
+sub-top : tie.Need-sub-top
+sub-top c = search (needs, clear-turn)
+
+sub-e : tie.Need-sub-e
+sub-e c = search (needs, column-some)
+
+sub-e-2 : tie.Need-sub-e-2
+sub-e-2 c = search (needs, column-digit)
+
+column-requires : tie.Need-column-requires
+column-requires c κs = (search (needs, ready-column), search needs, search needs, search needs)
+
+sub-second : tie.Need-sub-second
+sub-second c = search (needs, clear-meet)
+
+sub-second-2 : tie.Need-sub-second-2
+sub-second-2 c = search (needs, clear-join)
+
+sub-top-2 : tie.Need-sub-top-2
+sub-top-2 c = search (needs, clear-negate)
+
+lay-requires : tie.Need-lay-requires
+lay-requires c κs = search (needs, ready-constant)
 
 returns : tie.Need-returns
 returns c = search (needs, act-turn)
 
 returns-2 : tie.Need-returns-2
-returns-2 c = search (needs, act-no-turn)
+returns-2 c = search (needs, act-column)
 
 returns-3 : tie.Need-returns-3
-returns-3 c = search (needs, act-column)
+returns-3 c = search (needs, act-meet)
 
 returns-4 : tie.Need-returns-4
-returns-4 c = search (needs, act-no-column)
+returns-4 c = search (needs, act-join)
 
 returns-5 : tie.Need-returns-5
-returns-5 c = search (needs, act-meet)
+returns-5 c = search (needs, act-negate)
 
 returns-6 : tie.Need-returns-6
-returns-6 c = search (needs, act-no-meet)
+returns-6 c = search (needs, act-constant)
 
 returns-7 : tie.Need-returns-7
-returns-7 c = search (needs, act-join)
-
-returns-8 : tie.Need-returns-8
-returns-8 c = search (needs, act-no-join)
-
-returns-9 : tie.Need-returns-9
-returns-9 c = search (needs, act-negate)
-
-returns-10 : tie.Need-returns-10
-returns-10 c = search (needs, act-no-negate)
-
-returns-11 : tie.Need-returns-11
-returns-11 c = search (needs, act-constant)
-
-returns-12 : tie.Need-returns-12
-returns-12 c = search (needs, act-foreign)
+returns-7 c = search (needs, act-foreign)
 
 pub act-spec : {M : Type 1} → statement M
 act-spec =
     tie.close
     (tie.spec
     (λ c. search needs)
-    (λ c κs. search needs)
-    (λ c κs. search needs)
-    (λ c κs. search needs)
-    (λ c. search needs)
-    (λ c. search needs)
-    (λ c. search needs)
-    (λ c κs. search needs)
-    (λ c κs. search needs)
-    (λ c κs. search needs)
+    sub-top
     (λ c. search needs)
     (λ c κs. search needs)
     (λ c. search needs)
-    (λ c κs. search needs)
-    (λ c κs. search needs)
+    sub-e
+    sub-e-2
+    (λ c. search needs)
+    column-requires
+    (λ c. search needs)
+    sub-second
     (λ c. search needs)
     (λ c κs. search needs)
     (λ c. search needs)
-    (λ c κs. search needs)
-    (λ c κs. search needs)
+    sub-second-2
     (λ c. search needs)
     (λ c κs. search needs)
-    (λ c κs. search needs)
-    (λ c κs. search needs)
+    (λ c. search needs)
+    sub-top-2
     (λ c. search needs)
     (λ c κs. search needs)
-    (λ c κs. search needs)
+    (λ c. search needs)
     (λ c. search needs)
     (λ c κs. search needs)
+    lay-requires
+    (λ c. search needs)
+    (λ c. search needs)
+    (λ c. search needs)
     returns
+    (λ c. search needs)
+    (λ c. search needs)
     returns-2
+    (λ c. search needs)
+    (λ c. search needs)
     returns-3
+    (λ c. search needs)
+    (λ c. search needs)
     returns-4
+    (λ c. search needs)
+    (λ c. search needs)
     returns-5
+    (λ c. search needs)
+    (λ c. search needs)
     returns-6
-    returns-7
-    returns-8
-    returns-9
-    returns-10
-    returns-11
-    returns-12)
+    returns-7)

@@ -1,9 +1,51 @@
-use Rattle.planes.proofs.Bitwise.{join-lanes}
+use Prim.Native.Nat.{_-_, _≤_}
+use Rattle.answers.specs.Meaning.{join}
+use Rattle.planes.specs.Inside.{Placed, two}
+use Rattle.planes.proofs.Placing.{placed-none, placed-all, join-more}
+use borrow.Author.Needs.{needs}
 use Rattle.planes.proofs.join.Statement.{statement}
 use Rattle.planes.proofs.join.Tie as tie
 
-returns : tie.Need-returns
-returns c = join-lanes _ _
+abbrev Inv-loop : tie.InvT-loop
+Inv-loop bury₀ keep₀ at w₀ bury keep w = (w ≤ 16) × Placed (two join bury₀ keep₀ at) at w bury₀ keep₀ bury keep
+
+abbrev μ-loop : tie.MeasureT-loop
+μ-loop bury₀ keep₀ at w₀ bury keep w = 16 - w
+
+loop-holds : tie.Need-loop-holds Inv-loop μ-loop
+loop-holds c = (search needs, placed-none _ _ _ _)
+
+loop-again : tie.Need-loop-again Inv-loop μ-loop
+loop-again c = (search needs, search (needs, join-more))
+
+returns : tie.Need-returns Inv-loop μ-loop
+returns c = search (needs, placed-all)
 
 pub join-spec : {M : Type 1} → statement M
-join-spec = tie.close (tie.spec returns)
+join-spec =
+    tie.close
+    (tie.spec
+    Inv-loop
+    μ-loop
+    loop-holds
+    (λ c. search needs)
+    (λ c. search needs)
+    (λ c. search needs)
+    (λ c. search needs)
+    (λ c. search needs)
+    (λ c. search needs)
+    (λ c. search needs)
+    (λ c. search needs)
+    (λ c. search needs)
+    (λ c. search needs)
+    (λ c. search needs)
+    (λ c. search needs)
+    (λ c. search needs)
+    (λ c. search needs)
+    (λ c. search needs)
+    (λ c. search needs)
+    (λ c. search needs)
+    loop-again
+    (λ c. search needs)
+    (λ c. search needs)
+    returns)

@@ -1,22 +1,32 @@
-use borrow.Author.Needs.{needs}
 use Prim.Native.Nat.{_-_}
 use lib.ListN.{length}
 use Rattle.planes.specs.Inside.{Running}
-use Rattle.planes.proofs.Lapping.{running-none, running-more, running-stopped, ended-other, ended-one}
+use Rattle.planes.proofs.NodeLoop.{running-none, running-stopped, running-clear, running-more, ended-other, ended-one}
+use Rattle.nodes.proofs.Evaluation.{next-ahead, next-less}
+use borrow.Author.Needs.{needs}
 use Rattle.planes.proofs.run.Statement.{statement}
 use Rattle.planes.proofs.run.Tie as tie
 
 abbrev Inv-loop : tie.InvT-loop
-Inv-loop nodes word n stack₀ height₀ i₀ stack height i = Running nodes word n stack height i
+Inv-loop nodes columns first bury₀ keep₀ height₀ i₀ bury keep height i = Running nodes columns first bury keep height i
 
 abbrev μ-loop : tie.MeasureT-loop
-μ-loop nodes word n stack₀ height₀ i₀ stack height i = length nodes - i
+μ-loop nodes columns first bury₀ keep₀ height₀ i₀ bury keep height i = length nodes - i
 
 loop-holds : tie.Need-loop-holds Inv-loop μ-loop
 loop-holds c = search (needs, running-none)
 
 returns : tie.Need-returns Inv-loop μ-loop
 returns c = search (needs, running-stopped)
+
+sub-act : tie.Need-sub-act Inv-loop μ-loop
+sub-act c = search (needs, next-ahead)
+
+act-requires : tie.Need-act-requires Inv-loop μ-loop
+act-requires c κs = (search (needs, running-clear), search needs, search needs, search needs)
+
+loop-less : tie.Need-loop-less Inv-loop μ-loop
+loop-less c = search (needs, next-less)
 
 loop-again : tie.Need-loop-again Inv-loop μ-loop
 loop-again c = search (needs, running-more)
@@ -35,23 +45,24 @@ run-spec =
     μ-loop
     loop-holds
     (λ c. search needs)
-    (λ c. search needs)
-    (λ c κs. search needs)
-    (λ c. search needs)
-    (λ c. search needs)
-    (λ c. search needs)
-    (λ c. search needs)
     (λ c κs. search needs)
     (λ c κs. search needs)
+    (λ c κs. search needs)
+    (λ c κs. search needs)
+    (λ c. search needs)
+    (λ c. search needs)
     returns
     (λ c. search needs)
-    (λ c. search needs)
     (λ c κs. search needs)
-    (λ c. search needs)
-    (λ c. search needs)
-    (λ c. search needs)
+    sub-act
+    act-requires
+    loop-less
     loop-again
     (λ c κs. search needs)
+    (λ c. search needs)
+    (λ c. search needs)
     returns-2
+    (λ c κs. search needs)
+    (λ c. search needs)
     (λ c. search needs)
     returns-3)

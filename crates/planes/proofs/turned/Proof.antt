@@ -1,4 +1,4 @@
-use Rattle.planes.proofs.Turning.{turned-0, turned-1, turned-2, turned-3}
+use Rattle.planes.proofs.Pairs.{turned-0, turned-1, turned-2, turned-3}
 use borrow.Author.Needs.{needs}
 use Rattle.planes.proofs.turned.Statement.{statement}
 use Rattle.planes.proofs.turned.Tie as tie
@@ -19,12 +19,6 @@ pub turned-spec : {M : Type 1} → statement M
 turned-spec =
     tie.close
     (tie.spec
-    (λ c κs. search needs)
-    (λ c κs. search needs)
-    (λ c κs. search needs)
-    (λ c κs. search needs)
-    (λ c κs. search needs)
-    (λ c κs. search needs)
     returns
     returns-2
     returns-3

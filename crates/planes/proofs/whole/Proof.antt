@@ -1,4 +1,4 @@
-use Rattle.planes.proofs.Bitwise.{whole-silent, whole-bury, whole-keep, whole-clash}
+use Rattle.planes.proofs.Pairs.{whole-silent, whole-bury, whole-keep, whole-clash}
 use borrow.Author.Needs.{needs}
 use Rattle.planes.proofs.whole.Statement.{statement}
 use Rattle.planes.proofs.whole.Tie as tie
@@ -18,4 +18,12 @@ returns-4 c = search (needs, whole-clash)
 pub whole-spec : {M : Type 1} → statement M
 whole-spec =
     tie.close
-    (tie.spec (λ c. search needs) (λ c. search needs) (λ c. search needs) (λ c. search needs) returns returns-2 returns-3 returns-4)
+    (tie.spec
+    (λ c. search needs)
+    (λ c. search needs)
+    (λ c. search needs)
+    (λ c. search needs)
+    returns
+    returns-2
+    returns-3
+    returns-4)

@@ -1,0 +1,45 @@
+use Prim.Native.Nat.{_-_, _≤_}
+use Rattle.planes.specs.Inside.{Placed, spreadOut}
+use Rattle.planes.proofs.Placing.{placed-none, placed-all, spread-more}
+use borrow.Author.Needs.{needs}
+use Rattle.planes.proofs.spread.Statement.{statement}
+use Rattle.planes.proofs.spread.Tie as tie
+
+abbrev Inv-loop : tie.InvT-loop
+Inv-loop bury₀ keep₀ at shift b k w₀ bury keep w = (w ≤ 16) × Placed (spreadOut shift b k) at w bury₀ keep₀ bury keep
+
+abbrev μ-loop : tie.MeasureT-loop
+μ-loop bury₀ keep₀ at shift b k w₀ bury keep w = 16 - w
+
+loop-holds : tie.Need-loop-holds Inv-loop μ-loop
+loop-holds c = (search needs, placed-none _ _ _ _)
+
+loop-again : tie.Need-loop-again Inv-loop μ-loop
+loop-again c = (search needs, search (needs, spread-more))
+
+returns : tie.Need-returns Inv-loop μ-loop
+returns c = search (needs, placed-all)
+
+pub spread-spec : {M : Type 1} → statement M
+spread-spec =
+    tie.close
+    (tie.spec
+    Inv-loop
+    μ-loop
+    loop-holds
+    (λ c. search needs)
+    (λ c. search needs)
+    (λ c. search needs)
+    (λ c. search needs)
+    (λ c. search needs)
+    (λ c. search needs)
+    (λ c. search needs)
+    (λ c. search needs)
+    (λ c. search needs)
+    (λ c. search needs)
+    (λ c. search needs)
+    (λ c. search needs)
+    loop-again
+    (λ c. search needs)
+    (λ c. search needs)
+    returns)
