@@ -1,4 +1,3 @@
-pub mod Parts
-pub mod Digits
 pub mod Lines
-pub mod Judged
+pub mod Lengths
+pub mod Texts

@@ -1,67 +1,85 @@
--- The lines as they are written, part by part.
-use Prim.Native.Nat.{ℕ, _+_, _≤_}
-use mathlib.Core.Path.{_≡_}
-use mathlib.Core.List.{List}
-use lib.ListN.{length, take, length-take}
+-- The lines of a table as they are written, part by part.
+use Prim.Native.Nat.{ℕ, suc, _+_, _≤_, _<_}
+use mathlib.Core.Path.{_≡_, refl, ap, sym, _∙_}
+use mathlib.Core.List.{List, [], _∷_, _++_, append-nil, append-assoc}
+use lib.ListN.{length, take, getD}
+use lib.Seq.{length-sets, take-suc, take-all}
 use borrow.Author.Tests.{eq-eqb, ne-eqb}
+use native.Mathlib.Numerals.{add-one}
 use native.Mathlib.Omega.{arith}
-use Rattle.refusals.specs.declared.Refusal.{Refusal}
+use Rattle.text.specs.Meaning.{Printed, numberText, line}
+use Rattle.text.proofs.Printing.{printed-then}
 use Rattle.compiler.specs.declared.Compiled.{Compiled}
 use Rattle.growth.specs.declared.Growth.{Growth}
-use Rattle.judging.specs.Meaning.{numberText, line, refusalLine, countLines, answersText, raisedText, growthLine, columnsWord, rowsWord, nodesWord, growthYes, growthNo, columnWord, toWord, refusedWord}
-use Rattle.judging.specs.Inside.{Put}
-use Rattle.judging.proofs.Parts.{put-then, put-most}
+use Rattle.judging.specs.Meaning.{columnsWord, rowsWord, nodesWord, growthYes, growthNo, columnWord, toWord, countLines, answersText, raisedText, growthLine}
+use Rattle.judging.specs.Inside.{Telling}
 
-pub line-all :
-    (word : List ℕ) (x : ℕ) {b c d : List ℕ} {at k m : ℕ} →
-    Put (length word) b at word c k →
-    Put 21 c k (numberText x 10) d m →
-    Put (length word + 21) b at (line word x) d m
-line-all word x v w = put-then v w
-
-pub refusal-all :
-    (r : Refusal) {b c d e f : List ℕ} {at k m n o : ℕ} →
-    Put 8 b at refusedWord c k →
-    Put 21 c k (numberText (r .number) 32) d m →
-    Put 21 d m (numberText (r .place) 32) e n →
-    Put 21 e n (numberText (r .second) 10) f o →
-    Put 71 b at (refusalLine r) f o
-unfolding refusalLine
-refusal-all r v w x y = put-then (put-then (put-then v w) x) y
-
-pub counts-all :
+pub counts-printed :
     (q : Compiled) {b c d e : List ℕ} {at k m n : ℕ} →
-    Put 29 b at (line columnsWord (q .columns)) c k →
-    Put 26 c k (line rowsWord (q .rows)) d m →
-    Put 27 d m (line nodesWord (q .nodes)) e n →
-    Put 82 b at (countLines q) e n
+    Printed b at (line columnsWord (q .columns)) c k →
+    Printed c k (line rowsWord (q .rows)) d m →
+    Printed d m (line nodesWord (q .nodes)) e n →
+    Printed b at (countLines q) e n
 unfolding countLines
-counts-all q v w x = put-then (put-then v w) x
+counts-printed q v w x = printed-then (printed-then v w) x
 
-pub growth-yes : (g : Growth) {b c : List ℕ} {at k : ℕ} → g .verdict ≡ 1 → Put 11 b at growthYes c k → Put 86 b at (growthLine g) c k
-unfolding growthLine
-growth-yes g h v = rw (eq-eqb (g .verdict) 1 h) (put-most 11 86 v (omega arith))
+-- the answers of a situation, one behind another
+pub answersText-append : (xs ys : List ℕ) → answersText (xs ++ ys) ≡ answersText xs ++ answersText ys
+unfolding answersText
+answersText-append [] ys = refl
+answersText-append (x ∷ xs) ys = rw (answersText-append xs ys) (sym (append-assoc (numberText x 32) (answersText xs) (answersText ys)))
 
-pub raised-all :
+-- the loop begins behind the words of a no
+pub telling-start : (answers : List ℕ) {b c : List ℕ} {at m : ℕ} → Printed b at growthNo c m → Telling answers c m c m 0
+unfolding answersText
+telling-start answers {b} {at = at} v =
+    let long = ap length (v .holds) ∙ length-sets b at growthNo in
+    record { inside = omega arith; so-far = record { ends = let e = v .ends in omega arith; holds = refl } }
+
+module _ (answers : List ℕ) {old new : List ℕ} {at next : ℕ} (i : ℕ) (w : Telling answers old at new next i) where
+  pub telling-more :
+      i < length answers → {c : List ℕ} {m : ℕ} → Printed new next (numberText (getD answers i 0) 32) c m → Telling answers old at c m (i + 1)
+  unfolding answersText
+  telling-more l v =
+      record {
+        inside = omega arith;
+        so-far =
+            rw (
+              add-one i,
+              take-suc answers i 0 l,
+              answersText-append (take i answers) (getD answers i 0 ∷ []),
+              append-nil (numberText (getD answers i 0) 32),
+            )
+            (printed-then (w .so-far) v);
+      }
+
+  module _ {b : List ℕ} {start : ℕ} (v : Printed b start growthNo old at) where
+    pub telling-long : length new ≡ length b
+    telling-long =
+        ap length (w .so-far .holds) ∙ length-sets old at (answersText (take i answers)) ∙ ap length (v .holds) ∙ length-sets b start growthNo
+
+    pub telling-done : length answers ≤ i → Printed b start (growthNo ++ answersText answers) new next
+    telling-done l = printed-then v (rw (take-all i answers l) at (w .so-far))
+
+pub raised-printed :
     (column answer : ℕ) {b c d e f : List ℕ} {at k m n o : ℕ} →
-    Put 7 b at columnWord c k →
-    Put 21 c k (numberText column 32) d m →
-    Put 3 d m toWord e n →
-    Put 21 e n (numberText answer 10) f o →
-    Put 52 b at (raisedText column answer) f o
+    Printed b at columnWord c k →
+    Printed c k (numberText column 32) d m →
+    Printed d m toWord e n →
+    Printed e n (numberText answer 10) f o →
+    Printed b at (raisedText column answer) f o
 unfolding raisedText
-raised-all column answer v w x y = put-then (put-then (put-then v w) x) y
+raised-printed column answer v w x y = printed-then (printed-then (printed-then v w) x) y
 
-pub growth-no :
-    (g : Growth) {b c d e : List ℕ} {at k m n : ℕ} →
-    (g .verdict ≡ 1 → ⊥) →
-    Put 10 b at growthNo c k →
-    Put 24 c k (answersText (take (g .situation .length) (g .situation .answers))) d m →
-    Put 52 d m (raisedText (g .column) (g .answer)) e n →
-    Put 86 b at (growthLine g) e n
+pub growth-yes-printed : (g : Growth) {b c : List ℕ} {at k : ℕ} → g .verdict ≡ 1 → Printed b at growthYes c k → Printed b at (growthLine g) c k
 unfolding growthLine
-growth-no g h v w x = rw (ne-eqb (g .verdict) 1 h) (put-then (put-then v w) x)
+growth-yes-printed g h v = rw (eq-eqb (g .verdict) 1 h) v
 
--- the answers that count
-pub prefix-few : (s : List ℕ) (n : ℕ) → n ≤ 6 → length (take n s) ≤ 6
-prefix-few s n h = rw length-take (omega arith)
+pub growth-no-printed :
+    (g : Growth) {b c d : List ℕ} {at k m : ℕ} →
+    (g .verdict ≡ 1 → ⊥) →
+    Printed b at (growthNo ++ answersText (take (g .situation .length) (g .situation .answers))) c k →
+    Printed c k (raisedText (g .column) (g .answer)) d m →
+    Printed b at (growthLine g) d m
+unfolding growthLine
+growth-no-printed g h v w = rw (ne-eqb (g .verdict) 1 h) (printed-then v w)

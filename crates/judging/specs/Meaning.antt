@@ -1,32 +1,16 @@
 -- The text of `tablecheck`: what is printed for the bytes of a table.
-use Prim.Native.Nat.{ℕ, zero, suc, _+_, _/_, _%_}
+use Prim.Native.Nat.{ℕ}
 use mathlib.Core.Bool.{cond}
 use mathlib.Core.List.{List, [], _∷_, _++_}
-use lib.Dec.{ltb, eqb}
+use lib.Dec.{eqb}
 use lib.ListN.{take}
 use Rattle.refusals.specs.Meaning.{after}
-use Rattle.refusals.specs.declared.Refusal.{Refusal}
+use Rattle.text.specs.Meaning.{SPACE, LINE-FEED, numberText, line, refusalLine}
 use Rattle.tables.specs.Meaning.{tableOf}
 use Rattle.compiler.specs.declared.Compiled.{Compiled}
 use Rattle.compiler.specs.Meaning.{tableNodes, compileOf}
 use Rattle.growth.specs.declared.Growth.{Growth}
 use Rattle.growth.specs.Meaning.{growthOf}
-
--- "With single spaces and in decimal": the digits of a number, before those that are there already. 20 are enough for every
--- number of 64 bits.
-unfoldable pub decimalOnto : ℕ → ℕ → List ℕ → List ℕ
-decimalOnto zero n behind = behind
-decimalOnto (suc k) n behind = cond (ltb n 10) ((48 + n) ∷ behind) (decimalOnto k (n / 10) ((48 + n % 10) ∷ behind))
-
-unfoldable pub decimal : ℕ → List ℕ
-decimal n = decimalOnto 20 n []
-
--- What stands behind a number: a space, or at the end of a line a line feed.
-abbrev pub SPACE : ℕ
-SPACE = 32
-
-abbrev pub LINE-FEED : ℕ
-LINE-FEED = 10
 
 -- The words, each with what stands behind it.
 -- "columns "
@@ -57,21 +41,6 @@ columnWord = 99 ∷ 111 ∷ 108 ∷ 117 ∷ 109 ∷ 110 ∷ 32 ∷ []
 abbrev pub toWord : List ℕ
 toWord = 116 ∷ 111 ∷ 32 ∷ []
 
--- "refused "
-abbrev pub refusedWord : List ℕ
-refusedWord = 114 ∷ 101 ∷ 102 ∷ 117 ∷ 115 ∷ 101 ∷ 100 ∷ 32 ∷ []
-
--- A number, and the byte behind it.
-unfoldable pub numberText : ℕ → ℕ → List ℕ
-numberText n end = decimal n ++ end ∷ []
-
-abbrev pub line : List ℕ → ℕ → List ℕ
-line word n = word ++ numberText n LINE-FEED
-
--- "A refusal prints one line only: `refused`, number, place, second number."
-unfoldable pub refusalLine : Refusal → List ℕ
-refusalLine r = refusedWord ++ numberText (r .number) SPACE ++ numberText (r .place) SPACE ++ numberText (r .second) LINE-FEED
-
 -- "Lines: columns; rows read; nodes; .."
 unfoldable pub countLines : Compiled → List ℕ
 countLines c = line columnsWord (c .columns) ++ line rowsWord (c .rows) ++ line nodesWord (c .nodes)
@@ -94,4 +63,4 @@ growthLine g =
 unfoldable pub textOf : List ℕ → List ℕ
 textOf t =
     after (compileOf t 4223 .refusal) refusalLine
-    (countLines (compileOf t 4223) ++ growthLine (growthOf (tableNodes (tableOf t .rows)) (compileOf t 4223 .columns)))
+    (countLines (compileOf t 4223) ++ growthLine (growthOf (tableNodes (tableOf t)) (compileOf t 4223 .columns)))

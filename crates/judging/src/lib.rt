@@ -6,24 +6,16 @@
 ghost use mathlib.Core.Path.{_≡_};
 ghost use mathlib.Core.Bool.{cond};
 ghost use mathlib.Core.List.{_++_};
-ghost use Prim.Native.Nat.{_+_, _≤_};
+ghost use Prim.Native.Nat.{_≤_};
 ghost use lib.Dec.{ltb};
 ghost use lib.ListN.{length, take, drop};
-ghost use Rattle.judging.specs.Meaning.{line, refusalLine, countLines, answersText, raisedText, growthLine, textOf};
-ghost use Rattle.judging.specs.Inside.{Put};
-
-mod text;
-
+ghost use Rattle.text.specs.Meaning.{Printed, numberText};
+ghost use Rattle.judging.specs.Meaning.{countLines, growthNo, answersText, raisedText, growthLine, textOf};
 use compiler::Compiled;
 use growth::Growth;
 use growth::YES;
-use refusals::Refusal;
-use situations::Situation;
 use text::LINE_FEED;
 use text::SPACE;
-use text::put_answers;
-use text::put_bytes;
-use text::put_number;
 
 // The least length of a lent buffer that gets a text. Every text is shorter: a number has at most 20 digits.
 pub const TEXT_ROOM: usize = 256;
@@ -31,77 +23,66 @@ pub const TEXT_ROOM: usize = 256;
 // How many bytes of the input are judged.
 pub const JUDGED: usize = 1024;
 
-// A word and a number as a line.
-fn put_line(text: &mut [u8], at: usize, word: &[u8], n: usize) -> usize
-    requires { ⌜ at + length (now word) + 21 ≤ length (now text) ⌝ }
-    ensures { λ r. ⌜ Put (length (now (word .entry)) + 21) (now (text .entry)) at (line (now (word .entry)) n) (now (text .exit)) r ⌝ }
-{
-    let next = put_bytes(text, at, word);
-    put_number(text, next, n, LINE_FEED)
-}
-
-fn put_refusal(text: &mut [u8], at: usize, refusal: Refusal) -> usize
-    requires { ⌜ at + 71 ≤ length (now text) ⌝ }
-    ensures { λ r. ⌜ Put 71 (now (text .entry)) at (refusalLine refusal) (now (text .exit)) r ⌝ }
-{
-    let start = put_bytes(text, at, b"refused ");
-    let middle = put_number(text, start, refusal.number as usize, SPACE);
-    let end = put_number(text, middle, refusal.place, SPACE);
-    put_number(text, end, refusal.second, LINE_FEED)
-}
-
 fn put_counts(text: &mut [u8], at: usize, compiled: Compiled) -> usize
-    requires { ⌜ at + 82 ≤ length (now text) ⌝ }
-    ensures { λ r. ⌜ Put 82 (now (text .entry)) at (countLines compiled) (now (text .exit)) r ⌝ }
+    ensures { λ r. ⌜ Printed (now (text .entry)) at (countLines compiled) (now (text .exit)) r ⌝ }
 {
-    let rows = put_line(text, at, b"columns ", compiled.columns);
-    let nodes = put_line(text, rows, b"rows ", compiled.rows);
-    put_line(text, nodes, b"nodes ", compiled.nodes)
+    let rows = text::put_line(text, at, b"columns ", compiled.columns);
+    let nodes = text::put_line(text, rows, b"rows ", compiled.rows);
+    text::put_line(text, nodes, b"nodes ", compiled.nodes)
 }
 
-// The answers of a situation.
-fn put_situation(text: &mut [u8], at: usize, situation: Situation) -> usize
-    requires { ⌜ (situation .length ≤ 6) × (at + 45 ≤ length (now text)) ⌝ }
-    ensures { λ r. ⌜ Put 24 (now (text .entry)) at (answersText (take (situation .length) (situation .answers))) (now (text .exit)) r ⌝ }
+fn put_answer(text: &mut [u8], at: usize, a: u8) -> usize
+    ensures { λ r. ⌜ Printed (now (text .entry)) at (numberText a 32) (now (text .exit)) r ⌝ }
 {
-    let answers = situation.answers;
-    let columns = situation.length;
-    put_answers(text, at, &answers[..columns])
+    text::put_number(text, at, a as usize, SPACE)
+}
+
+// A no, with the answers of the situation that it shows.
+fn put_no(text: &mut [u8], at: usize, answers: &[u8]) -> usize
+    ensures { λ r. ⌜ Printed (now (text .entry)) at (growthNo ++ answersText (now (answers .entry))) (now (text .exit)) r ⌝ }
+{
+    let mut next = text::put_bytes(text, at, b"growth no ");
+    let mut i = 0;
+    while i < answers.len() {
+        next = put_answer(text, next, answers[i]);
+        i += 1;
+    }
+    next
 }
 
 // The column raised and its new answer.
 fn put_raised(text: &mut [u8], at: usize, column: usize, answer: u8) -> usize
-    requires { ⌜ at + 52 ≤ length (now text) ⌝ }
-    ensures { λ r. ⌜ Put 52 (now (text .entry)) at (raisedText column answer) (now (text .exit)) r ⌝ }
+    ensures { λ r. ⌜ Printed (now (text .entry)) at (raisedText column answer) (now (text .exit)) r ⌝ }
 {
-    let start = put_bytes(text, at, b"column ");
-    let raised = put_number(text, start, column, SPACE);
-    let to = put_bytes(text, raised, b"to ");
-    put_number(text, to, answer as usize, LINE_FEED)
+    let start = text::put_bytes(text, at, b"column ");
+    let raised = text::put_number(text, start, column, SPACE);
+    let to = text::put_bytes(text, raised, b"to ");
+    text::put_number(text, to, answer as usize, LINE_FEED)
 }
 
 fn put_growth(text: &mut [u8], at: usize, growth: Growth) -> usize
-    requires { ⌜ (growth .situation .length ≤ 6) × (at + 86 ≤ length (now text)) ⌝ }
-    ensures { λ r. ⌜ Put 86 (now (text .entry)) at (growthLine growth) (now (text .exit)) r ⌝ }
+    requires { ⌜ growth .situation .length ≤ 6 ⌝ }
+    ensures { λ r. ⌜ Printed (now (text .entry)) at (growthLine growth) (now (text .exit)) r ⌝ }
 {
     if growth.verdict == YES {
-        return put_bytes(text, at, b"growth yes\n");
+        return text::put_bytes(text, at, b"growth yes\n");
     }
-    let start = put_bytes(text, at, b"growth no ");
-    let told = put_situation(text, start, growth.situation);
+    let situation = growth.situation;
+    let answers = situation.answers;
+    let columns = situation.length;
+    let told = put_no(text, at, &answers[..columns]);
     put_raised(text, told, growth.column, growth.answer)
 }
 
 // The text of a table. The largest table needs 4,223 nodes.
 fn judge_table(table: &[u8], text: &mut [u8]) -> usize
-    requires { ⌜ 256 ≤ length (now text) ⌝ }
-    ensures { λ r. ⌜ Put 256 (now (text .entry)) 0 (textOf (now (table .entry))) (now (text .exit)) r ⌝ }
+    ensures { λ r. ⌜ Printed (now (text .entry)) 0 (textOf (now (table .entry))) (now (text .exit)) r ⌝ }
 {
     let mut nodes = [0u8; 4223];
     let compiled = compiler::compile(table, &mut nodes);
     let refusal = compiled.refusal;
     if refusal.number != 0 {
-        return put_refusal(text, 0, refusal);
+        return text::put_refusal(text, 0, refusal);
     }
     let count = compiled.nodes;
     let growth = growth::check_growth(&nodes[..count], compiled.columns);

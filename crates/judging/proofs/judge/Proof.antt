@@ -1,5 +1,5 @@
-use Rattle.judging.proofs.Judged.{judged-long, short-length, short-written, whole-length, whole-written, part-length, part-written}
 use borrow.Author.Needs.{needs}
+use Rattle.judging.proofs.Texts.{judged-long, short-length, short-written, whole-length, whole-written, part-length, part-written}
 use Rattle.judging.proofs.judge.Statement.{statement}
 use Rattle.judging.proofs.judge.Tie as tie
 
@@ -16,14 +16,4 @@ returns-3 : tie.Need-returns-3
 returns-3 c = search (needs, part-length, part-written)
 
 pub judge-spec : {M : Type 1} → statement M
-judge-spec =
-    tie.close
-    (tie.spec
-    returns
-    (λ c κs. search needs)
-    (λ c. search needs)
-    returns-2
-    slice-aggregate-judge-table
-    (λ c κs. search needs)
-    (λ c. search needs)
-    returns-3)
+judge-spec = tie.close (tie.spec returns (λ c κs. search needs) (λ c. search needs) returns-2 slice-aggregate-judge-table (λ c κs. search needs) (λ c. search needs) returns-3)

@@ -1,20 +1,10 @@
-use Rattle.judging.proofs.Lines.{raised-all}
 use borrow.Author.Needs.{needs}
+use Rattle.judging.proofs.Lines.{raised-printed}
 use Rattle.judging.proofs.put_raised.Statement.{statement}
 use Rattle.judging.proofs.put_raised.Tie as tie
 
 returns : tie.Need-returns
-returns c = search (needs, raised-all)
+returns c = search (needs, raised-printed)
 
 pub put-raised-spec : {M : Type 1} → statement M
-put-raised-spec =
-    tie.close
-    (tie.spec
-    (λ c. search needs)
-    (λ c κs. search needs)
-    (λ c κs. search needs)
-    (λ c. search needs)
-    (λ c κs. search needs)
-    (λ c κs. search needs)
-    (λ c. search needs)
-    returns)
+put-raised-spec = tie.close (tie.spec (λ c. search needs) (λ c κs. search needs) (λ c κs. search needs) (λ c. search needs) (λ c κs. search needs) (λ c κs. search needs) (λ c. search needs) returns)

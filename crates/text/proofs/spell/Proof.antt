@@ -1,8 +1,8 @@
 use borrow.Author.Needs.{needs}
-use Rattle.judging.specs.Inside.{Spelling}
-use Rattle.judging.proofs.Digits.{spelling-start, spelling-more, spelling-end, spelling-long}
-use Rattle.judging.proofs.text.spell.Statement.{statement}
-use Rattle.judging.proofs.text.spell.Tie as tie
+use Rattle.text.specs.Inside.{Spelling}
+use Rattle.text.proofs.Decimals.{spelling-start, spelling-more, spelling-end, spelling-long}
+use Rattle.text.proofs.spell.Statement.{statement}
+use Rattle.text.proofs.spell.Tie as tie
 
 abbrev Inv-loop : tie.InvT-loop
 Inv-loop n digits₀ at₀ rest₀ digits at rest = Spelling n rest digits at

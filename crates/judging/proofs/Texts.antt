@@ -1,52 +1,33 @@
 -- The ways out of judging: the text of a refusal and of an accepted table, and what a lent buffer holds then.
-use Prim.Native.Nat.{ℕ, _+_, _^_, _≤_, _<_}
+use Prim.Native.Nat.{ℕ, _+_, _≤_, _<_}
 use mathlib.Core.Path.{_≡_, ap, sym, subst, _∙_}
 use mathlib.Core.Bool.{Bool, true, false, cond}
 use mathlib.Core.List.{List, _++_}
-use lib.Dec.{ltb, eqb}
-use lib.ListN.{length, take, drop, replicate, length-append}
+use lib.Dec.{ltb}
+use lib.ListN.{length, take, drop, length-append}
 use lib.Seq.{sets-eq, take-all, length-take-le}
 use borrow.Author.Tests.{lt-ltb, le-ltb, eq-eqb, ne-eqb}
 use native.Mathlib.Nat.{zero-add}
 use native.Mathlib.Omega.{arith}
-use Rattle.refusals.specs.Meaning.{none}
-use Rattle.situations.specs.Meaning.{situationAt}
-use Rattle.situations.proofs.Base4.{situationAt-length}
-use Rattle.tables.specs.Meaning.{tableOf, readOf}
-use Rattle.tables.proofs.Accepted.{read-accepted}
-use Rattle.nodes.specs.Meaning.{evaluateOf}
+use Rattle.tables.specs.Meaning.{tableOf}
 use Rattle.compiler.specs.declared.Compiled.{Compiled}
 use Rattle.compiler.specs.Meaning.{tableNodes, compileOf, writtenOf}
-use Rattle.compiler.proofs.Replies.{accepted-read, accepted-reply, accepted-nodes, accepted-fits}
+use Rattle.selection.proofs.Replies.{accepted-nodes, accepted-fits}
 use Rattle.growth.specs.declared.Growth.{Growth}
-use Rattle.growth.specs.Meaning.{answerAt, firstSituation, without, shown, growthOf}
-use Rattle.judging.specs.Meaning.{refusalLine, countLines, growthLine, textOf}
-use Rattle.judging.specs.Inside.{Put}
-use Rattle.judging.proofs.Parts.{put-then, put-most}
-
--- the situation that the check shows has no more answers than there are columns
-growthOf-short : (nodes : List ℕ) (n : ℕ) → growthOf nodes n .situation .length ≤ n
-unfolding growthOf
-growthOf-short nodes n =
-    go (eqb (evaluateOf nodes (replicate n 0) .refusal .number) 0)
-    (ltb (firstSituation (answerAt nodes) n) (4 ^ n))
-    (firstSituation (answerAt nodes) n)
-  where
-    go :
-        (b c : Bool) (w : ℕ) →
-        cond b (cond c (shown (answerAt nodes) (situationAt n w)) (without none 1)) (without (evaluateOf nodes (replicate n 0) .refusal) 0) .situation .length ≤ n
-    go true true w = rw situationAt-length (omega arith)
-    go true false w = omega arith
-    go false c w = omega arith
+use Rattle.growth.specs.Meaning.{growthOf}
+use Rattle.text.specs.Meaning.{Printed, refusalLine}
+use Rattle.text.proofs.Printing.{printed-then}
+use Rattle.judging.specs.Meaning.{countLines, growthLine, textOf}
+use Rattle.judging.proofs.Lengths.{columns-few, growthOf-short, textOf-length}
 
 -- the nodes are compiled into a buffer of 4,223 bytes
 module _ (t b : List ℕ) (room : length b ≡ 4223) {q : Compiled} (e : q ≡ compileOf t (length b)) where
   reply-is : compileOf t 4223 ≡ q
   reply-is = ap (compileOf t) (sym room) ∙ sym e
 
-  pub refused-text : {old new : List ℕ} {r : ℕ} → (q .refusal .number ≡ 0 → ⊥) → Put 71 old 0 (refusalLine (q .refusal)) new r → Put 256 old 0 (textOf t) new r
+  pub refused-text : {old new : List ℕ} {r : ℕ} → (q .refusal .number ≡ 0 → ⊥) → Printed old 0 (refusalLine (q .refusal)) new r → Printed old 0 (textOf t) new r
   unfolding textOf
-  refused-text h v = rw (reply-is, ne-eqb (q .refusal .number) 0 h) (put-most 71 256 v (omega arith))
+  refused-text h v = rw (reply-is, ne-eqb (q .refusal .number) 0 h) v
 
   module _ (h : q .refusal .number ≡ 0) where
     compiles : compileOf t (length b) .refusal .number ≡ 0
@@ -62,28 +43,25 @@ module _ (t b : List ℕ) (room : length b ≡ 4223) {q : Compiled} (e : q ≡ c
     nodes-long nodes l = sym (length-take-le (q .nodes) nodes (nodes-inside nodes l))
 
     few-columns : q .columns ≤ 6
-    few-columns =
-        let same : q .columns ≡ readOf t .columns = ap (λ (x : Compiled). x .columns) (e ∙ accepted-reply t (length b) compiles) in
-        rw same (read-accepted t (accepted-read t (length b) compiles) .few-columns)
+    few-columns = rw e (columns-few t (length b) compiles)
 
     module _ {nodes : List ℕ} (f : nodes ≡ writtenOf t b) {g : Growth} (i : g ≡ growthOf (take (q .nodes) nodes) (q .columns)) where
       pub growth-short : g .situation .length ≤ 6
       growth-short = let few = few-columns in let short = growthOf-short (take (q .nodes) nodes) (q .columns) in rw i (omega arith)
 
-      growth-is : growthOf (tableNodes (tableOf t .rows)) (q .columns) ≡ g
+      growth-is : growthOf (tableNodes (tableOf t)) (q .columns) ≡ g
       growth-is =
-          let same : take (q .nodes) nodes ≡ tableNodes (tableOf t .rows) = rw (e, f) (accepted-nodes t b compiles) in
+          let same : take (q .nodes) nodes ≡ tableNodes (tableOf t) = rw (e, f) (accepted-nodes t b compiles) in
           ap (λ (l : List ℕ). growthOf l (q .columns)) (sym same) ∙ sym i
 
       pub accepted-text :
           {old mid new : List ℕ} {m r : ℕ} →
-          Put 82 old 0 (countLines q) mid m →
-          Put 86 mid m (growthLine g) new r →
-          Put 256 old 0 (textOf t) new r
+          Printed old 0 (countLines q) mid m →
+          Printed mid m (growthLine g) new r →
+          Printed old 0 (textOf t) new r
       unfolding textOf
       accepted-text v w =
-          rw (reply-is, eq-eqb (q .refusal .number) 0 h, growth-is)
-          (put-most 168 256 (put-then v w) (omega arith))
+          rw (reply-is, eq-eqb (q .refusal .number) 0 h, growth-is) (printed-then v w)
 
 -- the bytes judged
 pub judged-long : (input : List ℕ) → 1024 ≤ length input → 1024 ≡ length (take 1024 input)
@@ -100,30 +78,33 @@ pub short-written :
 short-written input lent h = rw (lt-ltb (length lent) 256 h)
 
 module _ (input lent : List ℕ) (h : 256 ≤ length lent) where
-  pub part-length : {new : List ℕ} {r : ℕ} → Put 256 lent 0 (textOf (take 1024 input)) new r → r ≡ cond (ltb (length lent) 256) 0 (length (textOf (take 1024 input)))
-  part-length v = v .wrote .ends ∙ zero-add (length (textOf (take 1024 input))) ∙ (rw (le-ltb (length lent) 256 h))
+  pub part-length : {new : List ℕ} {r : ℕ} → Printed lent 0 (textOf (take 1024 input)) new r → r ≡ cond (ltb (length lent) 256) 0 (length (textOf (take 1024 input)))
+  part-length v =
+      let short = textOf-length (take 1024 input) in
+      let e = v .ends in
+      rw (le-ltb (length lent) 256 h) (omega arith)
 
   pub part-written :
       {new : List ℕ} {r : ℕ} →
-      Put 256 lent 0 (textOf (take 1024 input)) new r →
+      Printed lent 0 (textOf (take 1024 input)) new r →
       new ≡ cond (ltb (length lent) 256) lent (textOf (take 1024 input) ++ drop (length (textOf (take 1024 input))) lent)
   part-written v =
       let text : List ℕ = textOf (take 1024 input) in
-      let fits : 0 + length text ≤ length lent = let p = v .wrote .ends in let s = v .short in omega arith in
-      v .wrote .holds ∙ sets-eq text lent 0 fits ∙ (rw (zero-add (length text), le-ltb (length lent) 256 h))
+      let fits : 0 + length text ≤ length lent = let short = textOf-length (take 1024 input) in omega arith in
+      v .holds ∙ sets-eq text lent 0 fits ∙ (rw (zero-add (length text), le-ltb (length lent) 256 h))
 
   module _ (l : length input < 1024) where
     all-input : take 1024 input ≡ input
     all-input = take-all 1024 input (omega arith)
 
-    pub whole-length : {new : List ℕ} {r : ℕ} → Put 256 lent 0 (textOf input) new r → r ≡ cond (ltb (length lent) 256) 0 (length (textOf (take 1024 input)))
-    whole-length {new} {r} v = part-length (subst (λ (l : List ℕ). Put 256 lent 0 (textOf l) new r) (sym all-input) v)
+    pub whole-length : {new : List ℕ} {r : ℕ} → Printed lent 0 (textOf input) new r → r ≡ cond (ltb (length lent) 256) 0 (length (textOf (take 1024 input)))
+    whole-length {new} {r} v = part-length (subst (λ (l : List ℕ). Printed lent 0 (textOf l) new r) (sym all-input) v)
 
     pub whole-written :
         {new : List ℕ} {r : ℕ} →
-        Put 256 lent 0 (textOf input) new r →
+        Printed lent 0 (textOf input) new r →
         new ≡ cond (ltb (length lent) 256) lent (textOf (take 1024 input) ++ drop (length (textOf (take 1024 input))) lent)
-    whole-written {new} {r} v = part-written (subst (λ (l : List ℕ). Put 256 lent 0 (textOf l) new r) (sym all-input) v)
+    whole-written {new} {r} v = part-written (subst (λ (l : List ℕ). Printed lent 0 (textOf l) new r) (sym all-input) v)
 
 -- the text stands within the lent buffer
 module _

@@ -1,6 +1,6 @@
 -- Numbers in decimal: how many digits they have, and how they are spelled from the last one on.
 use Prim.Native.Nat.{ℕ, zero, suc, _+_, _-_, _/_, _%_, _^_, _≤_, _<_}
-use mathlib.Core.Path.{_≡_, refl, ap, sym, _∙_}
+use mathlib.Core.Path.{_≡_, ap, sym, _∙_}
 use mathlib.Core.Bool.{Bool, true, false, cond}
 use mathlib.Core.List.{List, [], _∷_}
 use lib.Dec.{ltb}
@@ -9,10 +9,9 @@ use lib.Seq.{drop-cons, drop-set-lt, getD-set-same, take-all}
 use borrow.Author.Tests.{lt-ltb, le-ltb}
 use native.Mathlib.Nat.{pow-suc}
 use native.Mathlib.Omega.{arith}
-use Rattle.lent.specs.Meaning.{Wrote}
-use Rattle.lent.proofs.Laws.{wrote-then}
-use Rattle.judging.specs.Meaning.{decimalOnto, decimal, numberText}
-use Rattle.judging.specs.Inside.{Put, Spelled, Spelling}
+use Rattle.text.specs.Meaning.{Printed, decimalOnto, decimal, numberText}
+use Rattle.text.specs.Inside.{Spelled, Spelling}
+use Rattle.text.proofs.Printing.{printed-then}
 
 cond-length : (b : Bool) (xs ys : List ℕ) (most : ℕ) → length xs ≤ most → length ys ≤ most → length (cond b xs ys) ≤ most
 cond-length true xs ys most h k = h
@@ -30,11 +29,24 @@ decimalOnto-length (suc fuel) n (suc k) behind h =
     (omega arith)
     (omega (arith, rest))
 
-pub byte-length : (n end : ℕ) → n < 256 → length (numberText n end) ≤ 4
+-- how long the text of a number is: of any number, and of one below 10 to the k-th
+pub numberText-below : (k n end : ℕ) → n < 10 ^ suc k → length (numberText n end) ≤ suc k + 1
 unfolding numberText decimal
-byte-length n end h =
-    let digits = decimalOnto-length 20 n 2 [] (omega arith) in
+numberText-below k n end h =
+    let digits = decimalOnto-length 20 n k [] h in
     simp length-append (omega arith)
+
+fuel-length : (fuel n : ℕ) (behind : List ℕ) → length (decimalOnto fuel n behind) ≤ fuel + length behind
+unfolding decimalOnto
+fuel-length zero n behind = omega arith
+fuel-length (suc fuel) n behind =
+    cond-length (ltb n 10) ((48 + n) ∷ behind) (decimalOnto fuel (n / 10) ((48 + n % 10) ∷ behind)) (suc fuel + length behind)
+    (omega arith)
+    (let rest = fuel-length fuel (n / 10) ((48 + n % 10) ∷ behind) in omega (arith, rest))
+
+pub numberText-length : (n end : ℕ) → length (numberText n end) ≤ 21
+unfolding numberText decimal
+numberText-length n end = let digits = fuel-length 20 n [] in simp length-append (omega arith)
 
 -- spelling
 pub spelling-start : (n : ℕ) (digits : List ℕ) → n < 2 ^ 64 → length digits ≡ 20 → Spelling n n digits 20
@@ -90,30 +102,15 @@ module _ (n rest : ℕ) {digits : List ℕ} (at : ℕ) (w : Spelling n rest digi
   spelling-long old d e = length-set digits (at - 1) d ∙ w .size ∙ sym e
 
 -- a number and the byte behind it, from its digits
-module _ (n : ℕ) {digits : List ℕ} {first : ℕ} (s : Spelled n digits first) where
-  pub digits-part : take (20 - first) (drop first digits) ≡ decimal n
-  digits-part =
-      let long : length (drop first digits) ≤ 20 - first = rw length-drop (let z = s .size in omega arith) in
-      take-all (20 - first) (drop first digits) long ∙ s .all
-
-  module _ (end : ℕ) {k at m : ℕ} {b c : List ℕ} (v : Put k b at (take (20 - first) (drop first digits)) c m) where
-    digits-end : m ≤ at + 20
-    digits-end =
-        let long : length (take (20 - first) (drop first digits)) ≡ 20 - first = ap length digits-part ∙ ap length (sym (s .all)) ∙ length-drop first digits ∙ ap (λ (x : ℕ). x - first) (s .size) in
-        let e = v .wrote .ends in
-        omega arith
-
-    pub number-all : Put 21 b at (numberText n end) (set c m end) (m + 1)
-    unfolding numberText
-    number-all =
-        let one : Wrote c m (end ∷ []) (set c m end) (m + 1) = record { ends = refl; holds = refl } in
-        record {
-          wrote = wrote-then (rw digits-part at (v .wrote)) one;
-          short = let e = digits-end in omega arith;
-          long = length-set c m end ∙ v .long;
-        }
-
--- an answer is a byte
-pub answer-short : (a end : ℕ) {at m : ℕ} {b c : List ℕ} → a < 256 → Put 21 b at (numberText a end) c m → Put 4 b at (numberText a end) c m
-answer-short a end h v =
-    record { wrote = v .wrote; short = let e = v .wrote .ends in let s = byte-length a end h in omega arith; long = v .long }
+pub number-printed :
+    (n : ℕ) {digits : List ℕ} {first : ℕ} →
+    Spelled n digits first →
+    (end : ℕ) {at m r : ℕ} {b c d : List ℕ} →
+    Printed b at (take (20 - first) (drop first digits)) c m →
+    Printed c m (end ∷ []) d r →
+    Printed b at (numberText n end) d r
+unfolding numberText
+number-printed n {digits} {first} s end v w =
+    let long : length (drop first digits) ≤ 20 - first = rw length-drop (let z = s .size in omega arith) in
+    let part : take (20 - first) (drop first digits) ≡ decimal n = take-all (20 - first) (drop first digits) long ∙ s .all in
+    printed-then (rw part at v) w

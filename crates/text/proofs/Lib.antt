@@ -1,0 +1,3 @@
+pub mod Printing
+pub mod Decimals
+pub mod Lines
