@@ -2,7 +2,7 @@
 use mathlib.Core.Bool.{cond}
 use Rattle.answers.specs.Meaning.{number}
 use Rattle.answers.specs.declared.Reply.{Reply}
-use Rattle.answers.specs.declared.bytes.Related.{Related}
+use Rattle.operands.specs.declared.Related.{Related}
 use Rattle.situations.specs.declared.Situation.{Situation}
 use Rattle.situations.specs.declared.Merged.{Merged}
 use Rattle.notices.specs.declared.Noticed.{Noticed}

@@ -7,7 +7,7 @@
 ghost use mathlib.Core.Path.{_≡_};
 ghost use mathlib.Core.Bool.{cond};
 ghost use lib.ListN.{length};
-ghost use Rattle.answers.specs.Meaning.{oneOf, twoOf, replaceOf, containedOf};
+ghost use Rattle.operands.specs.Meaning.{oneOf, twoOf, replaceOf, containedOf};
 ghost use Rattle.answers.specs.declared.operators.One.the-variants as one;
 ghost use Rattle.answers.specs.declared.operators.Two.the-variants as two;
 ghost use Rattle.situations.specs.Meaning.{mergeOf};
@@ -18,7 +18,6 @@ ghost use Rattle.nodes.specs.Meaning.{evaluateOf};
 ghost use Rattle.growth.specs.Meaning.{growthOf};
 ghost use Rattle.carmuspeno.specs.Meaning.{answerFace, containedFace, compiledFace, situationFace, situationBehind, mergedFace, growthFace, noticedFace};
 use answers::Reply;
-use answers::bytes;
 use answers::operators::One;
 use answers::operators::Two;
 use situations::Situation;
@@ -90,13 +89,13 @@ fn answer_face(reply: Reply) -> CarmAnswer
 fn one(operator: One, p: u8) -> CarmAnswer
     ensures { λ r. ⌜ r ≡ answerFace (oneOf operator p) ⌝ }
 {
-    answer_face(bytes::one(operator, p))
+    answer_face(operands::one(operator, p))
 }
 
 fn two(operator: Two, p: u8, q: u8) -> CarmAnswer
     ensures { λ r. ⌜ r ≡ answerFace (twoOf operator p q) ⌝ }
 {
-    answer_face(bytes::two(operator, p, q))
+    answer_face(operands::two(operator, p, q))
 }
 
 #[no_mangle]
@@ -181,7 +180,7 @@ pub extern "C" fn carm_priority(p: u8, q: u8) -> CarmAnswer
 pub extern "C" fn carm_replace(x: u8, p: u8, q: u8) -> CarmAnswer
     ensures { λ r. ⌜ r ≡ answerFace (replaceOf x p q) ⌝ }
 {
-    answer_face(bytes::replace(x, p, q))
+    answer_face(operands::replace(x, p, q))
 }
 
 fn truth_number(truth: bool) -> u64
@@ -195,7 +194,7 @@ fn truth_number(truth: bool) -> u64
 pub extern "C" fn carm_contained(p: u8, q: u8) -> CarmAnswer
     ensures { λ r. ⌜ r ≡ containedFace (containedOf p q) ⌝ }
 {
-    let related = bytes::contained(p, q);
+    let related = operands::contained(p, q);
     CarmAnswer {
         number: related.refusal.number as u64,
         place: related.refusal.place as u64,

@@ -1,112 +1,184 @@
--- Each public function's contract determines what it returns: no two different results satisfy it.
+-- Each public function's contract determines what it returns: no two different results satisfy it. Here: answers, situations, speakers.
 -- `Post` is the contract itself, as the checker reads it off the source.
 use mathlib.Core.Path.{sym, _∙_}
 use Rattle.promises.specs.Meaning.{Determined}
-use Rattle.refusals.proofs.none as none
-use Rattle.refusals.proofs.refused as refused
-use Rattle.answers.proofs.number as number
-use Rattle.answers.proofs.from_number as from-number
-use Rattle.answers.proofs.contained as contained
-use Rattle.answers.proofs.operators.negate as operators-negate
-use Rattle.answers.proofs.operators.turn as operators-turn
-use Rattle.answers.proofs.operators.floor as operators-floor
-use Rattle.answers.proofs.operators.ceiling as operators-ceiling
-use Rattle.answers.proofs.operators.meet as operators-meet
-use Rattle.answers.proofs.operators.join as operators-join
-use Rattle.answers.proofs.operators.truth_meet as operators-truth-meet
-use Rattle.answers.proofs.operators.truth_join as operators-truth-join
-use Rattle.answers.proofs.operators.implication as operators-implication
-use Rattle.answers.proofs.operators.guard as operators-guard
-use Rattle.answers.proofs.operators.priority as operators-priority
-use Rattle.answers.proofs.operators.replace as operators-replace
-use Rattle.answers.proofs.operators.apply_one as operators-apply-one
-use Rattle.answers.proofs.operators.apply_two as operators-apply-two
-use Rattle.answers.proofs.bytes.first_above as bytes-first-above
-use Rattle.answers.proofs.bytes.one as bytes-one
-use Rattle.answers.proofs.bytes.two as bytes-two
-use Rattle.answers.proofs.bytes.replace as bytes-replace
-use Rattle.answers.proofs.bytes.contained as bytes-contained
-use Rattle.situations.proofs.fault as situation-fault
-use Rattle.situations.proofs.Situation.fault as situation-by-value-fault
-use Rattle.situations.proofs.Situation.merge as merge
+use Rattle.refusals.proofs.none as refusals-none
+use Rattle.refusals.proofs.refused as refusals-refused
+use Rattle.fields.proofs.two as fields-two
+use Rattle.fields.proofs.four as fields-four
+use Rattle.fields.proofs.short_header as fields-short-header
+use Rattle.fields.proofs.tag as fields-tag
+use Rattle.fields.proofs.size as fields-size
+use Rattle.fields.proofs.short_value as fields-short-value
+use Rattle.fields.proofs.first_above as fields-first-above
+use Rattle.answers.proofs.number as answers-number
+use Rattle.answers.proofs.from_number as answers-from-number
+use Rattle.answers.proofs.contained as answers-contained
+use Rattle.answers.proofs.operators.negate as answers-negate
+use Rattle.answers.proofs.operators.turn as answers-turn
+use Rattle.answers.proofs.operators.floor as answers-floor
+use Rattle.answers.proofs.operators.ceiling as answers-ceiling
+use Rattle.answers.proofs.operators.meet as answers-meet
+use Rattle.answers.proofs.operators.join as answers-join
+use Rattle.answers.proofs.operators.truth_meet as answers-truth-meet
+use Rattle.answers.proofs.operators.truth_join as answers-truth-join
+use Rattle.answers.proofs.operators.implication as answers-implication
+use Rattle.answers.proofs.operators.guard as answers-guard
+use Rattle.answers.proofs.operators.priority as answers-priority
+use Rattle.answers.proofs.operators.replace as answers-replace
+use Rattle.answers.proofs.operators.apply_one as answers-apply-one
+use Rattle.answers.proofs.operators.apply_two as answers-apply-two
+use Rattle.operands.proofs.one as operands-one
+use Rattle.operands.proofs.two as operands-two
+use Rattle.operands.proofs.replace as operands-replace
+use Rattle.operands.proofs.contained as operands-contained
+use Rattle.situations.proofs.fault as situations-fault
+use Rattle.situations.proofs.Situation.fault as situations-by-value-fault
+use Rattle.situations.proofs.Situation.merge as situations-merge
+use Rattle.situations.proofs.base4.weight as situations-weight
+use Rattle.situations.proofs.base4.digit as situations-digit
+use Rattle.situations.proofs.base4.situation_at as situations-situation-at
+use Rattle.situations.proofs.base4.index as situations-index
+use Rattle.notices.proofs.read_notice as notices-read-notice
+use Rattle.notices.proofs.look_up as notices-look-up
+use Rattle.notices.proofs.compare as notices-compare
+use Rattle.notices.proofs.present as notices-present
+use Rattle.codes.proofs.policy_kind as codes-policy-kind
+use Rattle.codes.proofs.test_kind as codes-test-kind
+use Rattle.policies.proofs.policy as policies-policy
+use Rattle.voices.proofs.speak as voices-speak
 
-pub none-determined : Determined none.Kinds.ps none.Kinds.r none.Reads.Post
-none-determined = record { result = λ κs a x y s t p q. p ∙ sym q }
+pub refusals-none-determined : Determined refusals-none.Kinds.ps refusals-none.Kinds.r refusals-none.Reads.Post
+refusals-none-determined = record { result = λ κs a x y s t p q. p ∙ sym q }
 
-pub refused-determined : Determined refused.Kinds.ps refused.Kinds.r refused.Reads.Post
-refused-determined = record { result = λ κs a x y s t p q. p ∙ sym q }
+pub refusals-refused-determined : Determined refusals-refused.Kinds.ps refusals-refused.Kinds.r refusals-refused.Reads.Post
+refusals-refused-determined = record { result = λ κs a x y s t p q. p ∙ sym q }
 
-pub number-determined : Determined number.Kinds.ps number.Kinds.r number.Reads.Post
-number-determined = record { result = λ κs a x y s t p q. p ∙ sym q }
+pub fields-two-determined : Determined fields-two.Kinds.ps fields-two.Kinds.r fields-two.Reads.Post
+fields-two-determined = record { result = λ κs a x y s t p q. p .0 ∙ sym (q .0) }
 
-pub from-number-determined : Determined from-number.Kinds.ps from-number.Kinds.r from-number.Reads.Post
-from-number-determined = record { result = λ κs a x y s t p q. p ∙ sym q }
+pub fields-four-determined : Determined fields-four.Kinds.ps fields-four.Kinds.r fields-four.Reads.Post
+fields-four-determined = record { result = λ κs a x y s t p q. p ∙ sym q }
 
-pub contained-determined : Determined contained.Kinds.ps contained.Kinds.r contained.Reads.Post
-contained-determined = record { result = λ κs a x y s t p q. p ∙ sym q }
+pub fields-short-header-determined : Determined fields-short-header.Kinds.ps fields-short-header.Kinds.r fields-short-header.Reads.Post
+fields-short-header-determined = record { result = λ κs a x y s t p q. p ∙ sym q }
 
-pub operators-negate-determined : Determined operators-negate.Kinds.ps operators-negate.Kinds.r operators-negate.Reads.Post
-operators-negate-determined = record { result = λ κs a x y s t p q. p ∙ sym q }
+pub fields-tag-determined : Determined fields-tag.Kinds.ps fields-tag.Kinds.r fields-tag.Reads.Post
+fields-tag-determined = record { result = λ κs a x y s t p q. p ∙ sym q }
 
-pub operators-turn-determined : Determined operators-turn.Kinds.ps operators-turn.Kinds.r operators-turn.Reads.Post
-operators-turn-determined = record { result = λ κs a x y s t p q. p ∙ sym q }
+pub fields-size-determined : Determined fields-size.Kinds.ps fields-size.Kinds.r fields-size.Reads.Post
+fields-size-determined = record { result = λ κs a x y s t p q. p ∙ sym q }
 
-pub operators-floor-determined : Determined operators-floor.Kinds.ps operators-floor.Kinds.r operators-floor.Reads.Post
-operators-floor-determined = record { result = λ κs a x y s t p q. p ∙ sym q }
+pub fields-short-value-determined : Determined fields-short-value.Kinds.ps fields-short-value.Kinds.r fields-short-value.Reads.Post
+fields-short-value-determined = record { result = λ κs a x y s t p q. p ∙ sym q }
 
-pub operators-ceiling-determined : Determined operators-ceiling.Kinds.ps operators-ceiling.Kinds.r operators-ceiling.Reads.Post
-operators-ceiling-determined = record { result = λ κs a x y s t p q. p ∙ sym q }
+pub fields-first-above-determined : Determined fields-first-above.Kinds.ps fields-first-above.Kinds.r fields-first-above.Reads.Post
+fields-first-above-determined = record { result = λ κs a x y s t p q. p ∙ sym q }
 
-pub operators-meet-determined : Determined operators-meet.Kinds.ps operators-meet.Kinds.r operators-meet.Reads.Post
-operators-meet-determined = record { result = λ κs a x y s t p q. p ∙ sym q }
+pub answers-number-determined : Determined answers-number.Kinds.ps answers-number.Kinds.r answers-number.Reads.Post
+answers-number-determined = record { result = λ κs a x y s t p q. p ∙ sym q }
 
-pub operators-join-determined : Determined operators-join.Kinds.ps operators-join.Kinds.r operators-join.Reads.Post
-operators-join-determined = record { result = λ κs a x y s t p q. p ∙ sym q }
+pub answers-from-number-determined : Determined answers-from-number.Kinds.ps answers-from-number.Kinds.r answers-from-number.Reads.Post
+answers-from-number-determined = record { result = λ κs a x y s t p q. p ∙ sym q }
 
-pub operators-truth-meet-determined : Determined operators-truth-meet.Kinds.ps operators-truth-meet.Kinds.r operators-truth-meet.Reads.Post
-operators-truth-meet-determined = record { result = λ κs a x y s t p q. p ∙ sym q }
+pub answers-contained-determined : Determined answers-contained.Kinds.ps answers-contained.Kinds.r answers-contained.Reads.Post
+answers-contained-determined = record { result = λ κs a x y s t p q. p ∙ sym q }
 
-pub operators-truth-join-determined : Determined operators-truth-join.Kinds.ps operators-truth-join.Kinds.r operators-truth-join.Reads.Post
-operators-truth-join-determined = record { result = λ κs a x y s t p q. p ∙ sym q }
+pub answers-negate-determined : Determined answers-negate.Kinds.ps answers-negate.Kinds.r answers-negate.Reads.Post
+answers-negate-determined = record { result = λ κs a x y s t p q. p ∙ sym q }
 
-pub operators-implication-determined : Determined operators-implication.Kinds.ps operators-implication.Kinds.r operators-implication.Reads.Post
-operators-implication-determined = record { result = λ κs a x y s t p q. p ∙ sym q }
+pub answers-turn-determined : Determined answers-turn.Kinds.ps answers-turn.Kinds.r answers-turn.Reads.Post
+answers-turn-determined = record { result = λ κs a x y s t p q. p ∙ sym q }
 
-pub operators-guard-determined : Determined operators-guard.Kinds.ps operators-guard.Kinds.r operators-guard.Reads.Post
-operators-guard-determined = record { result = λ κs a x y s t p q. p ∙ sym q }
+pub answers-floor-determined : Determined answers-floor.Kinds.ps answers-floor.Kinds.r answers-floor.Reads.Post
+answers-floor-determined = record { result = λ κs a x y s t p q. p ∙ sym q }
 
-pub operators-priority-determined : Determined operators-priority.Kinds.ps operators-priority.Kinds.r operators-priority.Reads.Post
-operators-priority-determined = record { result = λ κs a x y s t p q. p ∙ sym q }
+pub answers-ceiling-determined : Determined answers-ceiling.Kinds.ps answers-ceiling.Kinds.r answers-ceiling.Reads.Post
+answers-ceiling-determined = record { result = λ κs a x y s t p q. p ∙ sym q }
 
-pub operators-replace-determined : Determined operators-replace.Kinds.ps operators-replace.Kinds.r operators-replace.Reads.Post
-operators-replace-determined = record { result = λ κs a x y s t p q. p ∙ sym q }
+pub answers-meet-determined : Determined answers-meet.Kinds.ps answers-meet.Kinds.r answers-meet.Reads.Post
+answers-meet-determined = record { result = λ κs a x y s t p q. p ∙ sym q }
 
-pub operators-apply-one-determined : Determined operators-apply-one.Kinds.ps operators-apply-one.Kinds.r operators-apply-one.Reads.Post
-operators-apply-one-determined = record { result = λ κs a x y s t p q. p ∙ sym q }
+pub answers-join-determined : Determined answers-join.Kinds.ps answers-join.Kinds.r answers-join.Reads.Post
+answers-join-determined = record { result = λ κs a x y s t p q. p ∙ sym q }
 
-pub operators-apply-two-determined : Determined operators-apply-two.Kinds.ps operators-apply-two.Kinds.r operators-apply-two.Reads.Post
-operators-apply-two-determined = record { result = λ κs a x y s t p q. p ∙ sym q }
+pub answers-truth-meet-determined : Determined answers-truth-meet.Kinds.ps answers-truth-meet.Kinds.r answers-truth-meet.Reads.Post
+answers-truth-meet-determined = record { result = λ κs a x y s t p q. p ∙ sym q }
 
-pub bytes-first-above-determined : Determined bytes-first-above.Kinds.ps bytes-first-above.Kinds.r bytes-first-above.Reads.Post
-bytes-first-above-determined = record { result = λ κs a x y s t p q. p ∙ sym q }
+pub answers-truth-join-determined : Determined answers-truth-join.Kinds.ps answers-truth-join.Kinds.r answers-truth-join.Reads.Post
+answers-truth-join-determined = record { result = λ κs a x y s t p q. p ∙ sym q }
 
-pub bytes-one-determined : Determined bytes-one.Kinds.ps bytes-one.Kinds.r bytes-one.Reads.Post
-bytes-one-determined = record { result = λ κs a x y s t p q. p ∙ sym q }
+pub answers-implication-determined : Determined answers-implication.Kinds.ps answers-implication.Kinds.r answers-implication.Reads.Post
+answers-implication-determined = record { result = λ κs a x y s t p q. p ∙ sym q }
 
-pub bytes-two-determined : Determined bytes-two.Kinds.ps bytes-two.Kinds.r bytes-two.Reads.Post
-bytes-two-determined = record { result = λ κs a x y s t p q. p ∙ sym q }
+pub answers-guard-determined : Determined answers-guard.Kinds.ps answers-guard.Kinds.r answers-guard.Reads.Post
+answers-guard-determined = record { result = λ κs a x y s t p q. p ∙ sym q }
 
-pub bytes-replace-determined : Determined bytes-replace.Kinds.ps bytes-replace.Kinds.r bytes-replace.Reads.Post
-bytes-replace-determined = record { result = λ κs a x y s t p q. p ∙ sym q }
+pub answers-priority-determined : Determined answers-priority.Kinds.ps answers-priority.Kinds.r answers-priority.Reads.Post
+answers-priority-determined = record { result = λ κs a x y s t p q. p ∙ sym q }
 
-pub bytes-contained-determined : Determined bytes-contained.Kinds.ps bytes-contained.Kinds.r bytes-contained.Reads.Post
-bytes-contained-determined = record { result = λ κs a x y s t p q. p ∙ sym q }
+pub answers-replace-determined : Determined answers-replace.Kinds.ps answers-replace.Kinds.r answers-replace.Reads.Post
+answers-replace-determined = record { result = λ κs a x y s t p q. p ∙ sym q }
 
-pub situation-fault-determined : Determined situation-fault.Kinds.ps situation-fault.Kinds.r situation-fault.Reads.Post
-situation-fault-determined = record { result = λ κs a x y s t p q. p ∙ sym q }
+pub answers-apply-one-determined : Determined answers-apply-one.Kinds.ps answers-apply-one.Kinds.r answers-apply-one.Reads.Post
+answers-apply-one-determined = record { result = λ κs a x y s t p q. p ∙ sym q }
 
-pub situation-by-value-fault-determined : Determined situation-by-value-fault.Kinds.ps situation-by-value-fault.Kinds.r situation-by-value-fault.Reads.Post
-situation-by-value-fault-determined = record { result = λ κs a x y s t p q. p ∙ sym q }
+pub answers-apply-two-determined : Determined answers-apply-two.Kinds.ps answers-apply-two.Kinds.r answers-apply-two.Reads.Post
+answers-apply-two-determined = record { result = λ κs a x y s t p q. p ∙ sym q }
 
-pub merge-determined : Determined merge.Kinds.ps merge.Kinds.r merge.Reads.Post
-merge-determined = record { result = λ κs a x y s t p q. p ∙ sym q }
+pub operands-one-determined : Determined operands-one.Kinds.ps operands-one.Kinds.r operands-one.Reads.Post
+operands-one-determined = record { result = λ κs a x y s t p q. p ∙ sym q }
+
+pub operands-two-determined : Determined operands-two.Kinds.ps operands-two.Kinds.r operands-two.Reads.Post
+operands-two-determined = record { result = λ κs a x y s t p q. p ∙ sym q }
+
+pub operands-replace-determined : Determined operands-replace.Kinds.ps operands-replace.Kinds.r operands-replace.Reads.Post
+operands-replace-determined = record { result = λ κs a x y s t p q. p ∙ sym q }
+
+pub operands-contained-determined : Determined operands-contained.Kinds.ps operands-contained.Kinds.r operands-contained.Reads.Post
+operands-contained-determined = record { result = λ κs a x y s t p q. p ∙ sym q }
+
+pub situations-fault-determined : Determined situations-fault.Kinds.ps situations-fault.Kinds.r situations-fault.Reads.Post
+situations-fault-determined = record { result = λ κs a x y s t p q. p ∙ sym q }
+
+pub situations-by-value-fault-determined : Determined situations-by-value-fault.Kinds.ps situations-by-value-fault.Kinds.r situations-by-value-fault.Reads.Post
+situations-by-value-fault-determined = record { result = λ κs a x y s t p q. p ∙ sym q }
+
+pub situations-merge-determined : Determined situations-merge.Kinds.ps situations-merge.Kinds.r situations-merge.Reads.Post
+situations-merge-determined = record { result = λ κs a x y s t p q. p ∙ sym q }
+
+pub situations-weight-determined : Determined situations-weight.Kinds.ps situations-weight.Kinds.r situations-weight.Reads.Post
+situations-weight-determined = record { result = λ κs a x y s t p q. p ∙ sym q }
+
+pub situations-digit-determined : Determined situations-digit.Kinds.ps situations-digit.Kinds.r situations-digit.Reads.Post
+situations-digit-determined = record { result = λ κs a x y s t p q. p ∙ sym q }
+
+pub situations-situation-at-determined : Determined situations-situation-at.Kinds.ps situations-situation-at.Kinds.r situations-situation-at.Reads.Post
+situations-situation-at-determined = record { result = λ κs a x y s t p q. p ∙ sym q }
+
+pub situations-index-determined : Determined situations-index.Kinds.ps situations-index.Kinds.r situations-index.Reads.Post
+situations-index-determined = record { result = λ κs a x y s t p q. p ∙ sym q }
+
+pub notices-read-notice-determined : Determined notices-read-notice.Kinds.ps notices-read-notice.Kinds.r notices-read-notice.Reads.Post
+notices-read-notice-determined = record { result = λ κs a x y s t p q. p ∙ sym q }
+
+pub notices-look-up-determined : Determined notices-look-up.Kinds.ps notices-look-up.Kinds.r notices-look-up.Reads.Post
+notices-look-up-determined = record { result = λ κs a x y s t p q. p ∙ sym q }
+
+pub notices-compare-determined : Determined notices-compare.Kinds.ps notices-compare.Kinds.r notices-compare.Reads.Post
+notices-compare-determined = record { result = λ κs a x y s t p q. p ∙ sym q }
+
+pub notices-present-determined : Determined notices-present.Kinds.ps notices-present.Kinds.r notices-present.Reads.Post
+notices-present-determined = record { result = λ κs a x y s t p q. p ∙ sym q }
+
+pub codes-policy-kind-determined : Determined codes-policy-kind.Kinds.ps codes-policy-kind.Kinds.r codes-policy-kind.Reads.Post
+codes-policy-kind-determined = record { result = λ κs a x y s t p q. p ∙ sym q }
+
+pub codes-test-kind-determined : Determined codes-test-kind.Kinds.ps codes-test-kind.Kinds.r codes-test-kind.Reads.Post
+codes-test-kind-determined = record { result = λ κs a x y s t p q. p ∙ sym q }
+
+pub policies-policy-determined : Determined policies-policy.Kinds.ps policies-policy.Kinds.r policies-policy.Reads.Post
+policies-policy-determined = record { result = λ κs a x y s t p q. p ∙ sym q }
+
+pub voices-speak-determined : Determined voices-speak.Kinds.ps voices-speak.Kinds.r voices-speak.Reads.Post
+voices-speak-determined = record { result = λ κs a x y s t p q. p ∙ sym q }

@@ -1,37 +1,20 @@
--- The checked examples that document 01 marks to be proved, as one table under one theorem.
-use Prim.Native.Nat.{ℕ}
+-- The checked examples that document 01 marks to be proved, as one table under one theorem; and what is printed for an input as it
+-- came, of which the first 1,024 bytes are judged, letter by letter.
 use mathlib.Core.Path.{_≡_, refl}
-use mathlib.Core.List.{List, [], _∷_}
+use mathlib.Core.List.{[], _∷_}
+use lib.ListN.{take}
 use Rattle.refusals.specs.Meaning.{firstRefusal}
-use Rattle.answers.specs.Meaning.{number, fromNumber, turn, truthMeet, join, implication, replace, firstAbove}
-use Rattle.situations.specs.Meaning.{fault}
-use Rattle.tables.specs.Meaning.{tableOf, columnsFault, rowFault, valueFault, rowsFrom, fieldsOf, rowBytes, rowsOf}
-use Rattle.nodes.specs.Meaning.{step, run, evaluateOf}
-use Rattle.compiler.specs.Meaning.{turned, selector, selectors, followed, together, rowNodes, rowsLeft, tableNodes, selectorSize, selectorSizes, total, sizeOf, rowSize, tableSize}
-
--- The nodes of the table that bytes are, and their number.
-unfoldable pub nodesOf : List ℕ → List ℕ
-nodesOf t = tableNodes (tableOf t .rows)
-
--- n=1, row 2 gives 2
-unfoldable pub keepAtKeep : List ℕ
-keepAtKeep = 1 ∷ 0 ∷ 1 ∷ 1 ∷ 2 ∷ 0 ∷ 2 ∷ 2 ∷ 2 ∷ []
-
--- n=1, row 0 gives 1
-unfoldable pub buryAtSilent : List ℕ
-buryAtSilent = 1 ∷ 0 ∷ 1 ∷ 1 ∷ 2 ∷ 0 ∷ 2 ∷ 0 ∷ 1 ∷ []
-
--- n=1, no rows
-unfoldable pub noRows : List ℕ
-noRows = 1 ∷ 0 ∷ 1 ∷ 1 ∷ []
-
--- n=1, row any gives 3
-unfoldable pub clashAtAny : List ℕ
-clashAtAny = 1 ∷ 0 ∷ 1 ∷ 1 ∷ 2 ∷ 0 ∷ 2 ∷ 4 ∷ 3 ∷ []
-
--- L: columns laptop and library
-unfoldable pub laptop : List ℕ
-laptop = 1 ∷ 0 ∷ 1 ∷ 2 ∷ 2 ∷ 0 ∷ 3 ∷ 1 ∷ 4 ∷ 1 ∷ 2 ∷ 0 ∷ 3 ∷ 2 ∷ 4 ∷ 2 ∷ 2 ∷ 0 ∷ 3 ∷ 3 ∷ 4 ∷ 3 ∷ 2 ∷ 0 ∷ 3 ∷ 0 ∷ 1 ∷ 1 ∷ 2 ∷ 0 ∷ 3 ∷ 0 ∷ 2 ∷ 2 ∷ 2 ∷ 0 ∷ 3 ∷ 0 ∷ 3 ∷ 3 ∷ []
+use Rattle.fields.specs.Meaning.{firstAbove}
+use Rattle.answers.specs.Meaning.{number, fromNumber, turn, truthMeet, join, implication, replace}
+use Rattle.situations.specs.Meaning.{fault, situationAt}
+use Rattle.rows.specs.Meaning.{rowCount, rowBytes, rowsOf, rowFields, overlap, overlapOf, overlapIn, disagreeAt}
+use Rattle.tables.specs.Meaning.{tableOf, valueFault, columnsFault, rowFault, rowsFrom, fieldsOf, readOf, tableBytes}
+use Rattle.nodes.specs.Meaning.{climb, act, run, evaluateOf}
+use Rattle.compiler.specs.Meaning.{turned, selector, selectors, followed, together, rowNodes, rowsLeft, tableNodes, selectorSize, selectorSizes, total, sizeOf, rowSize, tableSize, compileOf}
+use Rattle.growth.specs.Meaning.{firstFrom, firstAnswer, columnFails, firstColumn, situationFails, firstSituation, growthOf}
+use Rattle.text.specs.Meaning.{decimalOnto, decimal, numberText, refusalLine}
+use Rattle.judging.specs.Meaning.{countLines, answersText, raisedText, growthLine, textOf}
+use Rattle.promises.specs.Meaning.{laptopText, emptyText, noRowsText, largeTable, largeText, nodesOf, keepAtKeep, buryAtSilent, noRows, clashAtAny, laptop}
 
 -- 1 to 6: turn of 3 is 0; truth meet 0, 3 is 1; join 1, 2 is 3; implication 0, 1 is 2; implication 3, 1 is 1; replace 1 in 1 by 2 is 2.
 -- 7 to 10: the nodes of the four small tables. 11: L needs 65 nodes. 12: L at (0, 1) answers 1, at (2, 1) answers 2.
@@ -46,8 +29,28 @@ pub examples :
     × (nodesOf buryAtSilent ≡ 16 ∷ 5 ∷ 5 ∷ 5 ∷ 16 ∷ 5 ∷ 5 ∷ 6 ∷ 4 ∷ [])
     × (nodesOf noRows ≡ 0 ∷ [])
     × (nodesOf clashAtAny ≡ 3 ∷ [])
-    × (tableSize (tableOf laptop .rows) ≡ 65)
+    × (tableSize (tableOf laptop) ≡ 65)
     × (number (evaluateOf (nodesOf laptop) (0 ∷ 1 ∷ []) .answer) ≡ 1)
     × (number (evaluateOf (nodesOf laptop) (2 ∷ 1 ∷ []) .answer) ≡ 2)
-unfolding nodesOf keepAtKeep buryAtSilent noRows clashAtAny laptop firstRefusal firstAbove fault columnsFault rowFault valueFault rowsFrom fieldsOf rowBytes rowsOf step run evaluateOf turned selector selectors followed together rowNodes rowsLeft tableNodes selectorSize selectorSizes total sizeOf rowSize tableSize
+unfolding nodesOf keepAtKeep buryAtSilent noRows clashAtAny laptop firstRefusal firstAbove fault rowCount rowBytes rowsOf climb act run evaluateOf turned selector selectors followed together rowNodes rowsLeft tableNodes selectorSize selectorSizes total sizeOf rowSize tableSize
 examples = (refl, refl, refl, refl, refl, refl, refl, refl, refl, refl, refl, refl, refl)
+
+-- The laptop table is judged as document 01 prints it.
+pub laptop-judged : textOf (take 1024 laptop) ≡ laptopText
+unfolding laptop firstRefusal firstAbove fault situationAt rowCount rowBytes rowsOf overlap overlapOf overlapIn disagreeAt valueFault columnsFault rowFault rowsFrom fieldsOf readOf climb act run evaluateOf turned selector selectors followed together rowNodes rowsLeft tableNodes selectorSize selectorSizes total sizeOf rowSize tableSize compileOf firstFrom firstAnswer columnFails firstColumn situationFails firstSituation growthOf decimalOnto decimal numberText countLines answersText raisedText growthLine textOf
+laptop-judged = refl
+
+-- An input of no bytes is refused.
+pub empty-judged : textOf (take 1024 []) ≡ emptyText
+unfolding columnsFault fieldsOf readOf compileOf decimalOnto decimal numberText refusalLine textOf
+empty-judged = refl
+
+-- The table without rows, silent everywhere, grows.
+pub no-rows-judged : textOf (take 1024 noRows) ≡ noRowsText
+unfolding noRows firstRefusal firstAbove fault situationAt rowCount rowBytes rowsOf overlap overlapOf overlapIn disagreeAt valueFault columnsFault rowFault rowsFrom fieldsOf readOf climb act run evaluateOf turned selector selectors followed together rowNodes rowsLeft tableNodes selectorSize selectorSizes total sizeOf rowSize tableSize compileOf firstFrom firstAnswer columnFails firstColumn situationFails firstSituation growthOf decimalOnto decimal numberText countLines answersText raisedText growthLine textOf
+no-rows-judged = refl
+
+-- A table of more than 512 bytes is judged as a whole.
+pub large-judged : textOf (take 1024 (tableBytes largeTable)) ≡ largeText
+unfolding rowFields firstRefusal firstAbove fault situationAt rowCount rowBytes rowsOf overlap overlapOf overlapIn disagreeAt valueFault columnsFault rowFault rowsFrom fieldsOf readOf climb act run evaluateOf turned selector selectors followed together rowNodes rowsLeft tableNodes selectorSize selectorSizes total sizeOf rowSize tableSize compileOf firstFrom firstAnswer columnFails firstColumn situationFails firstSituation growthOf decimalOnto decimal numberText countLines answersText raisedText growthLine textOf
+large-judged = refl

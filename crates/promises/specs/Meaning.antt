@@ -2,18 +2,20 @@
 use Prim.Native.Nat.{ℕ}
 use mathlib.Core.Path.{_≡_}
 use mathlib.Core.List.{List, [], _∷_, _++_}
-use borrow.Fn.Kinds.{PK, RK, Out, Dens, resT, endedOf}
+use borrow.Fn.Kinds.{PK, RK, In, Out, Dens, resT, endedOf}
 use denote.Triple.Clauses.{AtExit}
 use contract.Lifetimes.{Lfts, Within}
 use borrow.Kind.ShrSlice.{rShrS}
 use borrow.Table.Referent.{rtF, fInt}
 use mir.Syntax.{w8}
 use denote.Ref.{now}
-use lib.ListN.{length, take}
+use lib.ListN.{length, take, replicate}
+use Rattle.answers.specs.declared.Answer.the-variants.{Silent, Bury}
 use Rattle.situations.specs.declared.Situation.{Situation}
 use Rattle.situations.specs.Meaning.{mergeOf}
-use Rattle.tables.specs.Meaning.{readOf}
-use Rattle.compiler.specs.Meaning.{compileOf, writtenOf}
+use Rattle.rows.specs.Meaning.{is, any}
+use Rattle.tables.specs.Meaning.{Table, readOf, tableOf}
+use Rattle.compiler.specs.Meaning.{compileOf, writtenOf, tableNodes}
 
 -- "Prove that any two outcomes allowed by it are equal": the results of a function that lends out no memory to be written.
 -- `Post` is the function's own contract: its `ensures`, of the arguments, the result and the arguments at exit.
@@ -54,6 +56,10 @@ pub record DeterminedLent
       Post κs a y t →
       exit κs s ≡ exit κs t
 
+-- An entry point asks nothing: its `requires` is met by all arguments. `Pre` is the function's own, as the checker reads it off the source.
+pub record AsksNothing {n : ℕ} (ps : List (PK n)) (Pre : In n ps) : Type 0 where
+  pub met : (κs : Lfts n) (a : Dens κs ps) → Pre κs a
+
 -- Every situation by value has six bytes for answers.
 unfoldable pub SixBytes : Situation → Type 0
 SixBytes s = length (s .answers) ≡ 6
@@ -74,10 +80,66 @@ Compiles bytes lent = compileOf bytes (length lent) .refusal .number ≡ 0
 unfoldable pub nodesWritten : List ℕ → List ℕ → List ℕ
 nodesWritten bytes lent = take (compileOf bytes (length lent) .nodes) (writtenOf bytes lent)
 
--- What document 01 prints for the laptop table, each line with its line feed: "columns 2", "rows 6", "nodes 65", "growth no 0 1 column 0 to 2".
+-- The tables of the examples.
+-- The nodes of the table that bytes are, and their number.
+unfoldable pub nodesOf : List ℕ → List ℕ
+nodesOf t = tableNodes (tableOf t)
+
+-- n=1, row 2 gives 2
+unfoldable pub keepAtKeep : List ℕ
+keepAtKeep = 1 ∷ 0 ∷ 1 ∷ 1 ∷ 2 ∷ 0 ∷ 2 ∷ 2 ∷ 2 ∷ []
+
+-- n=1, row 0 gives 1
+unfoldable pub buryAtSilent : List ℕ
+buryAtSilent = 1 ∷ 0 ∷ 1 ∷ 1 ∷ 2 ∷ 0 ∷ 2 ∷ 0 ∷ 1 ∷ []
+
+-- n=1, no rows
+unfoldable pub noRows : List ℕ
+noRows = 1 ∷ 0 ∷ 1 ∷ 1 ∷ []
+
+-- n=1, row any gives 3
+unfoldable pub clashAtAny : List ℕ
+clashAtAny = 1 ∷ 0 ∷ 1 ∷ 1 ∷ 2 ∷ 0 ∷ 2 ∷ 4 ∷ 3 ∷ []
+
+-- L: columns laptop and library
+unfoldable pub laptop : List ℕ
+laptop = 1 ∷ 0 ∷ 1 ∷ 2 ∷ 2 ∷ 0 ∷ 3 ∷ 1 ∷ 4 ∷ 1 ∷ 2 ∷ 0 ∷ 3 ∷ 2 ∷ 4 ∷ 2 ∷ 2 ∷ 0 ∷ 3 ∷ 3 ∷ 4 ∷ 3 ∷ 2 ∷ 0 ∷ 3 ∷ 0 ∷ 1 ∷ 1 ∷ 2 ∷ 0 ∷ 3 ∷ 0 ∷ 2 ∷ 2 ∷ 2 ∷ 0 ∷ 3 ∷ 0 ∷ 3 ∷ 3 ∷ []
+
+-- What document 01 prints for the laptop table, each line with its line feed: "columns 2", "rows 6", "nodes 65",
+-- "growth no 0 1 column 0 to 2".
 abbrev pub laptopText : List ℕ
 laptopText =
     (99 ∷ 111 ∷ 108 ∷ 117 ∷ 109 ∷ 110 ∷ 115 ∷ 32 ∷ 50 ∷ 10 ∷ [])
     ++ (114 ∷ 111 ∷ 119 ∷ 115 ∷ 32 ∷ 54 ∷ 10 ∷ [])
     ++ (110 ∷ 111 ∷ 100 ∷ 101 ∷ 115 ∷ 32 ∷ 54 ∷ 53 ∷ 10 ∷ [])
     ++ (103 ∷ 114 ∷ 111 ∷ 119 ∷ 116 ∷ 104 ∷ 32 ∷ 110 ∷ 111 ∷ 32 ∷ 48 ∷ 32 ∷ 49 ∷ 32 ∷ 99 ∷ 111 ∷ 108 ∷ 117 ∷ 109 ∷ 110 ∷ 32 ∷ 48 ∷ 32 ∷ 116 ∷ 111 ∷ 32 ∷ 50 ∷ 10 ∷ [])
+
+-- For an input of no bytes: "refused 2 0 0".
+abbrev pub emptyText : List ℕ
+emptyText = (114 ∷ 101 ∷ 102 ∷ 117 ∷ 115 ∷ 101 ∷ 100 ∷ 32 ∷ 50 ∷ 32 ∷ 48 ∷ 32 ∷ 48 ∷ 10 ∷ [])
+
+-- For the table of one column and no rows: "columns 1", "rows 0", "nodes 1", "growth yes".
+abbrev pub noRowsText : List ℕ
+noRowsText =
+    (99 ∷ 111 ∷ 108 ∷ 117 ∷ 109 ∷ 110 ∷ 115 ∷ 32 ∷ 49 ∷ 10 ∷ [])
+    ++ (114 ∷ 111 ∷ 119 ∷ 115 ∷ 32 ∷ 48 ∷ 10 ∷ [])
+    ++ (110 ∷ 111 ∷ 100 ∷ 101 ∷ 115 ∷ 32 ∷ 49 ∷ 10 ∷ [])
+    ++ (103 ∷ 114 ∷ 111 ∷ 119 ∷ 116 ∷ 104 ∷ 32 ∷ 121 ∷ 101 ∷ 115 ∷ 10 ∷ [])
+
+-- A table of 516 bytes: of four columns, silent everywhere gives 1, and 63 rows in which the first column 1 gives 0.
+abbrev pub largeTable : Table
+largeTable =
+    record {
+      columns = 4;
+      rows =
+          record { cells = replicate 4 (is Silent); outcome = Bury }
+          ∷ replicate 63 (record { cells = is Bury ∷ replicate 3 any; outcome = Silent });
+    }
+
+-- For it: "columns 4", "rows 64", "nodes 39", "growth no 0 0 0 0 column 0 to 1".
+abbrev pub largeText : List ℕ
+largeText =
+    (99 ∷ 111 ∷ 108 ∷ 117 ∷ 109 ∷ 110 ∷ 115 ∷ 32 ∷ 52 ∷ 10 ∷ [])
+    ++ (114 ∷ 111 ∷ 119 ∷ 115 ∷ 32 ∷ 54 ∷ 52 ∷ 10 ∷ [])
+    ++ (110 ∷ 111 ∷ 100 ∷ 101 ∷ 115 ∷ 32 ∷ 51 ∷ 57 ∷ 10 ∷ [])
+    ++ (103 ∷ 114 ∷ 111 ∷ 119 ∷ 116 ∷ 104 ∷ 32 ∷ 110 ∷ 111 ∷ 32 ∷ 48 ∷ 32 ∷ 48 ∷ 32 ∷ 48 ∷ 32 ∷ 48 ∷ 32 ∷ 99 ∷ 111 ∷ 108 ∷ 117 ∷ 109 ∷ 110 ∷ 32 ∷ 48 ∷ 32 ∷ 116 ∷ 111 ∷ 32 ∷ 49 ∷ 10 ∷ [])

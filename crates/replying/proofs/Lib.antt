@@ -1,0 +1,5 @@
+pub mod ReplyLaws
+pub mod TableNumbers
+pub mod NodeNumbers
+pub mod VoiceNumbers
+pub mod MergeLaws
