@@ -1,11 +1,13 @@
 /* bench list             the names of the jobs, with how often each is best repeated
  * bench JOB REPETITIONS  does the job so often and prints its last reply
+ * bench stack JOB        the bytes of stack that the job done once takes, some 200 of them its caller's
  *
  * Linked once with the archive and once with each peer; the calls are the same, and no call can be inlined. */
 #include <inttypes.h>
 #include <stdio.h>
 #include <stdlib.h>
 #include <string.h>
+#include <ucontext.h>
 
 #include "carmuspeno.h"
 
@@ -13,6 +15,10 @@ enum { MOST_NODES = 4223 };
 
 static uint8_t table[1024], nodes[MOST_NODES], notice[32 * 9], voice[200];
 static size_t table_len, nodes_len, notice_len, voice_len;
+
+/* a reply printed, but not on the stack that is measured */
+static int quiet;
+#define SAY(...) do { if (!quiet) printf(__VA_ARGS__); } while (0)
 
 /* ---- inputs ---- */
 
@@ -105,21 +111,21 @@ static void make_growing_nodes(void) { compiled(growing); }
 
 static void print_growth(carm_growth r)
 {
-    printf("%" PRIu64 " %" PRIu64 " %" PRIu64 " %" PRIu64 " %" PRIu64 "\n", r.number, r.place, r.verdict, r.column, r.answer);
+    SAY("%" PRIu64 " %" PRIu64 " %" PRIu64 " %" PRIu64 " %" PRIu64 "\n", r.number, r.place, r.verdict, r.column, r.answer);
 }
 
 static void do_compile(long repetitions)
 {
     carm_compiled r = { 0 };
     while (repetitions--) r = carm_compile(table, table_len, nodes, sizeof nodes);
-    printf("%" PRIu64 " %" PRIu64 " %" PRIu64 " %d\n", r.number, r.place, r.nodes, nodes[r.nodes - 1]);
+    SAY("%" PRIu64 " %" PRIu64 " %" PRIu64 " %d\n", r.number, r.place, r.nodes, nodes[r.nodes - 1]);
 }
 
 static void evaluate(long repetitions, const uint8_t *situation, size_t situation_len)
 {
     carm_answer r = { 0 };
     while (repetitions--) r = carm_evaluate(nodes, nodes_len, situation, situation_len);
-    printf("%" PRIu64 " %" PRIu64 " %" PRIu64 "\n", r.number, r.place, r.answer);
+    SAY("%" PRIu64 " %" PRIu64 " %" PRIu64 "\n", r.number, r.place, r.answer);
 }
 
 static void evaluate_two(long repetitions) { evaluate(repetitions, (const uint8_t[]){ 2, 1 }, 2); }
@@ -139,14 +145,14 @@ static void do_notice(long repetitions)
 {
     carm_noticed r = { 0 };
     while (repetitions--) r = carm_read_notice(notice, notice_len);
-    printf("%" PRIu64 " %" PRIu64 " %" PRIu64 "\n", r.number, r.place, r.facts);
+    SAY("%" PRIu64 " %" PRIu64 " %" PRIu64 "\n", r.number, r.place, r.facts);
 }
 
 static void do_speak(long repetitions)
 {
     carm_answer r = { 0 };
     while (repetitions--) r = carm_speak(notice, notice_len, voice, voice_len);
-    printf("%" PRIu64 " %" PRIu64 " %" PRIu64 "\n", r.number, r.place, r.answer);
+    SAY("%" PRIu64 " %" PRIu64 " %" PRIu64 "\n", r.number, r.place, r.answer);
 }
 
 static void nothing(void) {}
@@ -156,7 +162,7 @@ static void do_merge(long repetitions)
     carm_situation second = { 6, { 0, 1, 2, 3, 1, 2 } };
     carm_merged r = { 0, 0, 0, { 6, { 0, 0, 1, 1, 2, 2 } } };
     while (repetitions--) r = carm_merge(r.situation, second);
-    printf("%" PRIu64 " %d%d%d\n", r.number, r.situation.answers[0], r.situation.answers[4], r.situation.answers[5]);
+    SAY("%" PRIu64 " %d%d%d\n", r.number, r.situation.answers[0], r.situation.answers[4], r.situation.answers[5]);
 }
 
 static const struct {
@@ -180,18 +186,51 @@ static const struct {
 
 enum { JOBS = sizeof jobs / sizeof jobs[0] };
 
+/* ---- stack ---- */
+
+enum { PAINTED = 65536, PAINT = 0xa5 };
+
+static ucontext_t here, there;
+static void (*measured)(long);
+
+static void measure(void) { measured(1); }
+
+/* how many bytes of a painted stack a job done once has written over */
+static size_t stack_bytes(void (*work)(long))
+{
+    static uint8_t stack[PAINTED];
+    size_t untouched = 0;
+    memset(stack, PAINT, sizeof stack);
+    measured = work;
+    quiet = 1;
+    getcontext(&there);
+    there.uc_stack.ss_sp = stack;
+    there.uc_stack.ss_size = sizeof stack;
+    there.uc_link = &here;
+    makecontext(&there, measure, 0);
+    swapcontext(&here, &there);
+    while (untouched < sizeof stack && stack[untouched] == PAINT) untouched++;
+    return sizeof stack - untouched;
+}
+
 int main(int argc, char **argv)
 {
     if (argc == 2 && strcmp(argv[1], "list") == 0) {
         for (int i = 0; i < JOBS; i++) printf("%s|%ld|%s|%s\n", jobs[i].name, jobs[i].repetitions, jobs[i].call, jobs[i].input);
         return 0;
     }
+    for (int i = 0; argc == 3 && strcmp(argv[1], "stack") == 0 && i < JOBS; i++)
+        if (strcmp(argv[2], jobs[i].name) == 0) {
+            jobs[i].make();
+            printf("%zu\n", stack_bytes(jobs[i].work));
+            return 0;
+        }
     for (int i = 0; argc == 3 && i < JOBS; i++)
         if (strcmp(argv[1], jobs[i].name) == 0) {
             jobs[i].make();
             jobs[i].work(atol(argv[2]));
             return 0;
         }
-    fprintf(stderr, "bench list | bench JOB REPETITIONS\n");
+    fprintf(stderr, "bench list | bench JOB REPETITIONS | bench stack JOB\n");
     return 2;
 }

@@ -3,7 +3,10 @@
  *
  * An answer's two bits say "bury is said" and "keep is said": contained-in is subset, meet is and, join is or.
  *
- * GROWTH_BY_PLANES makes the growth check keep 64 situations to a word; without it, it evaluates once per situation. */
+ * GROWTH_BY_PLANES makes the growth check keep 64 situations to a word; without it, it evaluates once per situation.
+ * NODE_BY_NODE beside it makes it do each node in all words before the next one; without it, it goes word by word.
+ * EVALUATE_FASTER makes the evaluator the fastest one in C that we know (it takes labels as values, as gcc and clang have
+ * them); without it, it is a switch over an array. */
 #include <string.h>
 
 #include "carmuspeno.h"
@@ -172,6 +175,74 @@ carm_compiled carm_compile(const uint8_t *table, size_t table_len, uint8_t *node
 
 /* ---- evaluating ---- */
 
+#ifdef EVALUATE_FASTER
+
+/* the stack's top is a local, the turns behind a column are done with it, and each node jumps to the next one's code */
+static carm_answer run(const uint8_t *nodes, size_t nodes_len, const uint8_t *situation, size_t columns)
+{
+    static const void *const codes[22] = {
+        &&constant, &&constant, &&constant, &&constant, &&negate, &&turn, &&meet, &&join, &&other, &&other, &&other,
+        &&other, &&other, &&other, &&other, &&other, &&column, &&column, &&column, &&column, &&column, &&column
+    };
+    uint8_t stack[STACK + 1];
+    size_t height = 0, at = 0;
+    unsigned top = 0, node;
+#define NEXT \
+    do { \
+        if (at == nodes_len) goto end; \
+        node = nodes[at]; \
+        if (node > 21) goto other; \
+        goto *codes[node]; \
+    } while (0)
+    NEXT;
+constant:
+    if (height == STACK) return refused(DEEP, at);
+    stack[height++] = (uint8_t)top;
+    top = node;
+    at++;
+    NEXT;
+column:
+    if (node - COLUMN_0 >= columns) return refused(COLUMN, at);
+    if (height == STACK) return refused(DEEP, at);
+    stack[height++] = (uint8_t)top;
+    top = situation[node - COLUMN_0];
+    at++;
+    while (at < nodes_len && nodes[at] == TURN) {
+        top++;
+        at++;
+    }
+    top &= 3;
+    NEXT;
+negate:
+    if (height < 1) return refused(UNDER, at);
+    top = negated(top);
+    at++;
+    NEXT;
+turn:
+    if (height < 1) return refused(UNDER, at);
+    top = turned(top);
+    at++;
+    NEXT;
+meet:
+    if (height < 2) return refused(UNDER, at);
+    top &= stack[--height];
+    at++;
+    NEXT;
+join:
+    if (height < 2) return refused(UNDER, at);
+    top |= stack[--height];
+    at++;
+    NEXT;
+other:
+    return refused(NODE, at);
+end:
+    if (height != 1) return refused(END, nodes_len);
+    return answered(top);
+#undef NEXT
+}
+
+#else
+
 static carm_answer run(const uint8_t *nodes, size_t nodes_len, const uint8_t *situation, size_t columns)
 {
     uint8_t stack[STACK];
@@ -213,6 +284,8 @@ static carm_answer run(const uint8_t *nodes, size_t nodes_len, const uint8_t *si
     if (height != 1) return refused(END, nodes_len);
     return answered(stack[0]);
 }
+
+#endif
 
 carm_answer carm_evaluate(const uint8_t *nodes, size_t nodes_len, const uint8_t *situation, size_t situation_len)
 {
@@ -314,10 +387,84 @@ static plane column_plane(unsigned word, unsigned place)
     return constant(word >> 2 * (place - 3) & 3);
 }
 
+#ifdef NODE_BY_NODE
+
+/* lawful nodes only: each node is done in all words before the next one, bury and keep apart so that the loops can be vectors */
+typedef struct { uint64_t bury[MOST_SITUATIONS / 64], keep[MOST_SITUATIONS / 64]; } planes;
+
+/* a column's answers turned so many times */
+static void put_turned(planes *to, const planes *column, unsigned words, unsigned turns)
+{
+    for (unsigned w = 0; w < words; w++) {
+        uint64_t bury = column->bury[w], keep = column->keep[w];
+        to->bury[w] = turns & 1 ? ~bury : bury;
+        to->keep[w] = turns == 1 ? keep ^ bury : turns == 2 ? ~keep : turns == 3 ? ~(keep ^ bury) : keep;
+    }
+}
+
+static void fill(const uint8_t *nodes, size_t nodes_len, unsigned n, unsigned words, plane *answers)
+{
+    planes stack[STACK + 1], *top = stack, columns[6];
+    for (unsigned i = 0; i < n; i++)
+        for (unsigned w = 0; w < words; w++) {
+            plane column = column_plane(w, n - 1 - i);
+            columns[i].bury[w] = column.bury;
+            columns[i].keep[w] = column.keep;
+        }
+    for (size_t at = 0; at < nodes_len; at++) {
+        unsigned node = nodes[at], turns = 0;
+        switch (node) {
+        case NEGATE:
+            for (unsigned w = 0; w < words; w++) {
+                uint64_t bury = top->bury[w];
+                top->bury[w] = top->keep[w];
+                top->keep[w] = bury;
+            }
+            break;
+        case TURN:
+            for (unsigned w = 0; w < words; w++) {
+                top->keep[w] ^= top->bury[w];
+                top->bury[w] = ~top->bury[w];
+            }
+            break;
+        case MEET:
+            top--;
+            for (unsigned w = 0; w < words; w++) {
+                top->bury[w] &= top[1].bury[w];
+                top->keep[w] &= top[1].keep[w];
+            }
+            break;
+        case JOIN:
+            top--;
+            for (unsigned w = 0; w < words; w++) {
+                top->bury[w] |= top[1].bury[w];
+                top->keep[w] |= top[1].keep[w];
+            }
+            break;
+        default:
+            top++;
+            if (node < 4) {
+                for (unsigned w = 0; w < words; w++) {
+                    top->bury[w] = constant(node).bury;
+                    top->keep[w] = constant(node).keep;
+                }
+                break;
+            }
+            /* the turns behind a column are done with it */
+            while (at + 1 < nodes_len && nodes[at + 1] == TURN) at++, turns++;
+            put_turned(top, &columns[node - COLUMN_0], words, turns & 3);
+        }
+    }
+    for (unsigned w = 0; w < words; w++) answers[w] = (plane){ top->bury[w], top->keep[w] };
+}
+
+#else
+
 /* lawful nodes only */
 static plane run_plane(const uint8_t *nodes, size_t nodes_len, const plane *columns)
 {
     plane stack[STACK + 1], *top = stack;
+    *top = (plane){ 0, 0 };
     for (size_t at = 0; at < nodes_len; at++) {
         unsigned node = nodes[at];
         uint64_t bury = top->bury;
@@ -346,6 +493,17 @@ static plane run_plane(const uint8_t *nodes, size_t nodes_len, const plane *colu
     }
     return *top;
 }
+
+static void fill(const uint8_t *nodes, size_t nodes_len, unsigned n, unsigned words, plane *answers)
+{
+    for (unsigned word = 0; word < words; word++) {
+        plane columns[6];
+        for (unsigned i = 0; i < n; i++) columns[i] = column_plane(word, n - 1 - i);
+        answers[word] = run_plane(nodes, nodes_len, columns);
+    }
+}
+
+#endif
 
 /* the answers of the situations that lie so many numbers further on */
 static plane further(const plane *answers, unsigned word, unsigned by)
@@ -396,11 +554,7 @@ carm_growth carm_check_growth(const uint8_t *nodes, size_t nodes_len, uint64_t c
     carm_answer reply = run(nodes, nodes_len, silent, n);
     if (reply.number) return growth_refused(reply.number, reply.place);
     plane answers[MOST_SITUATIONS / 64];
-    for (unsigned word = 0; word < words; word++) {
-        plane planes[6];
-        for (unsigned i = 0; i < n; i++) planes[i] = column_plane(word, n - 1 - i);
-        answers[word] = run_plane(nodes, nodes_len, planes);
-    }
+    fill(nodes, nodes_len, n, words, answers);
     for (unsigned word = 0; word < words; word++) {
         uint64_t fail = 0;
         for (unsigned i = 0; i < n; i++) fail |= failing(answers, word, n - 1 - i);

@@ -1,7 +1,11 @@
 /* Carmuspeno: four answers, tables compiled to nodes, notices, voices, and the growth check.
  *
- * Link with libcarmuspeno.a (x86-64). No function allocates, blocks, keeps a pointer after it returns, or has
- * state of its own. Bytes are given as a pointer and a length; where the length is 0 the pointer may be NULL.
+ * Link with libcarmuspeno.a (x86-64, System V calling convention; its code uses SSE registers and the red zone, and calls
+ * memcpy and memset). No function allocates, blocks, keeps a pointer after it returns, or has state of its own, so threads may
+ * call at once. How many bytes of stack a call takes: bench/run --stack.
+ *
+ * Bytes are given as a pointer and a length; where the length is 0 the pointer may be NULL. Memory that is lent to be
+ * written must not overlap what is read in the same call: a table compiled into itself gets number 0 and wrong nodes.
  *
  * Every reply starts with the same three numbers. `number` is 0 for success and else says what was refused,
  * `place` says where (mostly an offset or an index), `second` is the earlier row of OVERLAP and else 0.
@@ -16,31 +20,41 @@
 extern "C" {
 #endif
 
-/* Answers are numbers: 0 silent, 1 bury, 2 keep, 3 clash. A cell of a table may also be 4, any.
- *
- * Refusals:
- *    1 SHORT      a field is cut short
- *    2 START      a table does not start with its number of columns
- *    3 TAG        a field of another tag
- *    4 LEN        a field of another length
- *    5 VALUE      a byte out of range; place: its offset in a table, its index among an operator's operands
- *    6 ROWS       a 65th row
- *    7 OVERLAP    two rows disagree; place: the later one, second: the earlier one, counted from 0
- *    8 ROOM       the lent buffer is too small; place: the number of nodes needed
- *    9 NODE       a byte that is no node
- *   10 COLUMN     a column that the situation does not have
- *   11 UNDER      too few operands
- *   12 DEEP       a 17th operand on the stack
- *   13 END        not exactly one answer is left; place: the array's length
- *   14 SITUATION  a length outside 1 to 6, or unlike the first one's; place: the length
- *                 an answer above 3; place: its index
- *   16 CODE       a byte that is no code of the kind wanted
- *   17 CUT        a voice that ends too soon
- *   18 NEST       a 17th level
- *   19 TAIL       bytes after the voice
- *   20 RISE       a fact whose number does not pass the one before
- *   21 FACTS      a 33rd fact
- * Number 15 is unused. */
+/* Answers are numbers. */
+enum { CARM_SILENT = 0, CARM_BURY = 1, CARM_KEEP = 2, CARM_CLASH = 3 };
+
+/* A cell of a table may also be any. */
+enum { CARM_ANY = 4 };
+
+/* What the growth check says: neither in a refusal. */
+enum { CARM_NEITHER = 0, CARM_YES = 1, CARM_NO = 2 };
+
+/* Room that is enough for the nodes of every lawful table. */
+#define CARM_NODES_MAX 4223
+
+/* Refusals, and what `place` is. Number 15 is unused. */
+enum {
+    CARM_SHORT = 1,      /* a field is cut short; its offset */
+    CARM_START = 2,      /* a table does not start with its number of columns; 0 */
+    CARM_TAG = 3,        /* a field of another tag; its offset */
+    CARM_LEN = 4,        /* a field of another length; its offset */
+    CARM_VALUE = 5,      /* a byte out of range; its offset in a table, its index among an operator's operands */
+    CARM_ROWS = 6,       /* a 65th row; its offset */
+    CARM_OVERLAP = 7,    /* two rows disagree; the later one, and `second` the earlier one, counted from 0 */
+    CARM_ROOM = 8,       /* the lent buffer is too small; the number of nodes needed */
+    CARM_NODE = 9,       /* a byte that is no node; its index */
+    CARM_COLUMN = 10,    /* a column that the situation does not have; the node's index */
+    CARM_UNDER = 11,     /* too few operands; the node's index */
+    CARM_DEEP = 12,      /* a 17th operand on the stack; the node's index */
+    CARM_END = 13,       /* not exactly one answer is left; the array's length */
+    CARM_SITUATION = 14, /* a length outside 1 to 6, or unlike the first one's; the length. An answer above 3; its index */
+    CARM_CODE = 16,      /* a byte of a voice that is no code of the kind wanted; its offset */
+    CARM_CUT = 17,       /* a voice that ends too soon; where the code would stand, or the code whose number is incomplete */
+    CARM_NEST = 18,      /* a 17th level; where its code would stand */
+    CARM_TAIL = 19,      /* bytes after the voice; the first of them */
+    CARM_RISE = 20,      /* a fact whose number does not pass the one before; its field's offset */
+    CARM_FACTS = 21      /* a 33rd fact; its field's offset */
+};
 
 typedef struct { uint64_t number, place, second, answer; } carm_answer;
 
@@ -52,7 +66,7 @@ typedef struct { uint64_t length; uint8_t answers[6]; } carm_situation;
 
 typedef struct { uint64_t number, place, second; carm_situation situation; } carm_merged;
 
-/* `verdict` is 0 for neither (a refusal), 1 for yes, 2 for no. Only on a no are the rest other than 0: in
+/* `verdict` is CARM_NEITHER, CARM_YES or CARM_NO. Only on a no are the rest other than 0: in
  * `situation`, raising `column` to `answer` loses something; it is the first step that does. */
 typedef struct {
     uint64_t number, place, second, verdict;
@@ -82,8 +96,7 @@ carm_answer carm_replace(uint8_t x, uint8_t p, uint8_t q);
 /* 1 if p is contained in q, else 0. */
 carm_answer carm_contained(uint8_t p, uint8_t q);
 
-/* Judges a table and writes its nodes to the front of the lent buffer; the bytes behind them stay. 4,223 bytes are
- * room for every lawful table. */
+/* Judges a table and writes its nodes to the front of the lent buffer; the bytes behind them stay. */
 carm_compiled carm_compile(const uint8_t *table, size_t table_len, uint8_t *nodes, size_t nodes_len);
 
 /* The answer of an array of nodes in a situation of `situation_len` columns. Any array may be given. */

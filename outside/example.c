@@ -19,7 +19,7 @@ static const char *const words[] = { "silent", "bury", "keep", "clash" };
 
 int main(void)
 {
-    uint8_t nodes[4223]; /* room for every lawful table */
+    uint8_t nodes[CARM_NODES_MAX]; /* room for every lawful table */
     carm_compiled made = carm_compile(table, sizeof table, nodes, sizeof nodes);
     if (made.number != 0) {
         printf("refused %" PRIu64 " at %" PRIu64 "\n", made.number, made.place);
@@ -32,7 +32,7 @@ int main(void)
     printf("laptop silent, library bury: %s\n", words[said.answer]);
 
     carm_growth growth = carm_check_growth(nodes, made.nodes, made.columns);
-    if (growth.verdict == 1) {
+    if (growth.verdict == CARM_YES) {
         printf("growth: yes\n");
     } else {
         printf("growth: no, from");
@@ -44,6 +44,12 @@ int main(void)
     /* keep, when fact 7 is not 1; the notice has no fact */
     const uint8_t voice[] = { 24, 40, 43, 0, 7, 0, 0, 0, 1, 2 };
     printf("voice: %s\n", words[carm_speak(NULL, 0, voice, sizeof voice).answer]);
+
+    /* the laptop's report merged with the library's */
+    carm_situation laptop = { 2, { CARM_KEEP, CARM_SILENT } }, library = { 2, { CARM_SILENT, CARM_BURY } };
+    carm_merged both = carm_merge(laptop, library);
+    said = carm_evaluate(nodes, made.nodes, both.situation.answers, both.situation.length);
+    printf("merged: %s %s, and the table says %s\n", words[both.situation.answers[0]], words[both.situation.answers[1]], words[said.answer]);
 
     /* one byte of room too few */
     carm_compiled refused = carm_compile(table, sizeof table, nodes, made.nodes - 1);

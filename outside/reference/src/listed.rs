@@ -355,6 +355,8 @@ fn growth_checks() -> Vec<String> {
         calls.extend((0..=3).map(|outcome| growth(&compiled(&table_bytes(1, &[vec![cell, outcome]])), 1)));
     }
     // six columns: yes after every step, no at the last situation, no at the first step
+    // bury but where the column clashes: the first failing step is 1 to 3, since none goes from 0 to 3
+    calls.push(growth(&compiled(&table_bytes(1, &[vec![0, 1], vec![1, 1], vec![2, 1]])), 1));
     calls.push(growth(&[16, 17, 7, 18, 7, 19, 6, 20, 7, 21, 7], 6));
     calls.push(growth(&compiled(&table_bytes(6, &[vec![3, 3, 3, 3, 3, 2, 2]])), 6));
     calls.push(growth(&compiled(&table_bytes(6, &[vec![0, 0, 0, 0, 0, 0, 3]])), 6));
