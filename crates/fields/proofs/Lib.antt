@@ -1,3 +1,4 @@
 pub mod Above
 pub mod Numbers
 pub mod Headers
+pub mod Rests

@@ -5,7 +5,6 @@ pub mod Merging
 pub mod Numbers
 pub mod Weights
 pub mod Columns
-pub mod Indexes
 pub mod Raised
 pub mod Silent
 pub mod Steps

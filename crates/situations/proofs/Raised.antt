@@ -51,6 +51,3 @@ module _ (n w c : ℕ) (k : c < n) (a : Answer) where
   index-raised i =
       rw (← column-digit n w c {d = digit w (n - 1 - c)} k refl, situationAt-length n w, index-situationAt n w i)
       at (index-set (situationAt n w) c a (rw (situationAt-length n w) k))
-
-  pub index-raised-small : index (set (situationAt n w) c a) < 4 ^ n
-  index-raised-small = rw (length-set (situationAt n w) c a, situationAt-length n w) at (index-small (set (situationAt n w) c a))

@@ -1,6 +1,6 @@
 -- What the reply of a merge says: handed back as it came, or the merger of the columns.
 use Prim.Native.Nat.{ℕ, _≤_}
-use mathlib.Core.Path.{_≡_, refl, ap, _∙_}
+use mathlib.Core.Path.{_≡_, refl, ap, ap₂, sym, _∙_}
 use mathlib.Core.Bool.{Bool, true, false, cond}
 use mathlib.Core.List.{List, map}
 use lib.Dec.{eqb}
@@ -10,6 +10,7 @@ use borrow.Author.Tests.{eqb-true, eqb-false}
 use native.Mathlib.Omega.{arith}
 use Rattle.answers.specs.Meaning.{number, fromNumber}
 use Rattle.answers.specs.declared.Answer.{Answer}
+use Rattle.refusals.specs.declared.Refusal.{Refusal}
 use Rattle.situations.specs.declared.Situation.{Situation}
 use Rattle.situations.specs.declared.Merged.{Merged}
 use Rattle.situations.specs.Meaning.{answersOf, columns, faultOf, merge, mergeBytes, mergeOf}
@@ -71,6 +72,25 @@ merged-refused s t =
     (λ q h. refl)
     (λ q p h. absurd (h refl))
 
+merged-bytes :
+    (s t : Situation) →
+    mergeOf s t .refusal .number ≡ 0 →
+    mergeOf s t .situation ≡ record { length = s .length; answers = mergeBytes (s .length) (s .answers) (t .answers) }
+unfolding mergeOf
+merged-bytes s t =
+    by-tests (λ m. m .refusal .number ≡ 0 → m .situation ≡ record { length = s .length; answers = mergeBytes (s .length) (s .answers) (t .answers) })
+    (eqb (faultOf s .number) 0)
+    (eqb (faultOf t .number) 0)
+    (eqb (s .length) (t .length))
+    _
+    _
+    _
+    _
+    (λ q h. absurd (eqb-false (faultOf s .number) 0 q h))
+    (λ q h. absurd (eqb-false (faultOf t .number) 0 q h))
+    (λ q h. absurd (omega (arith, h)))
+    (λ q p h. refl)
+
 -- what a merge that is not refused has to do with its operands
 pub record Joined (s t : Situation) (m : Situation) : Type 0 where
   pub short : s .length ≤ 6
@@ -111,3 +131,21 @@ merged-joined s t e =
 
 pub columns-length : (s : Situation) → length (s .answers) ≡ 6 → s .length ≤ 6 → length (columns s) ≡ s .length
 columns-length s e h = length-map (take (s .length) (s .answers)) fromNumber ∙ length-take-le (s .length) (s .answers) (omega arith)
+
+abbrev reply : Refusal → Situation → Merged
+reply r m = record { refusal = r; situation = m }
+
+-- the ways out of a merge whose check has given its refusal
+module _ (s t : Situation) {r : Refusal} (e : r ≡ mergeOf s t .refusal) where
+  pub merge-refused : (r .number ≡ 0 → ⊥) → record { refusal = r; situation = s } ≡ mergeOf s t
+  merge-refused h = ap₂ reply e (sym (merged-refused s t (rw e at (h))))
+
+  module _ (a : r .number ≡ 0) where
+    pub merge-short : length (s .answers) ≡ 6 → s .length ≤ 6
+    merge-short l = merged-joined s t l (rw e at (a)) .short
+
+    pub merge-joined :
+        {l : List ℕ} →
+        l ≡ mergeBytes (s .length) (s .answers) (t .answers) →
+        record { refusal = r; situation = record { length = s .length; answers = l } } ≡ mergeOf s t
+    merge-joined p = ap₂ reply e (rw p (sym (merged-bytes s t (rw e at (a)))))

@@ -1,17 +1,13 @@
-// Situations: n answers, one for each column, n from 1 to 6. The check that every call on a situation starts with, merging,
-// and the numbers that situations have in base 4.
+// Situations: n answers, one for each column, n from 1 to 6. The check that every call on a situation starts with, and merging.
+// The crate `base4` has the numbers of situations.
 //
 // It promises that a merger is the join column by column, and that a refused merge hands back the first situation as it came.
 // It refuses by SITUATION: a length outside 1 to 6 (place: the length), else the first answer above 3 (place: its index).
 // A merge looks at its first operand so, then at its second, then at unequal lengths (place: the second's length).
 ghost use mathlib.Core.Path.{_≡_};
 ghost use Prim.Native.Nat.{_≤_};
-ghost use lib.ListN.{length};
 ghost use Rattle.situations.specs.Meaning.{fault, faultOf, mergeBytes, mergeOf};
 ghost use Rattle.situations.specs.Inside.{joinNumbers};
-
-pub mod base4;
-
 use refusals::Refusal;
 use refusals::SITUATION;
 
@@ -78,36 +74,41 @@ impl Situation {
         fault(&answers[..length])
     }
 
+    // What is wrong with a merge of this situation with another one.
+    fn merge_fault(self, other: Situation) -> Refusal
+        ensures { λ r. ⌜ r ≡ mergeOf self other .refusal ⌝ }
+    {
+        let first = self.fault();
+        if first.number != 0 {
+            return first;
+        }
+        let second = other.fault();
+        if second.number != 0 {
+            return second;
+        }
+        let length = other.length;
+        if self.length != length {
+            return refusals::refused(SITUATION, length);
+        }
+        refusals::none()
+    }
+
     // This situation joined with another one, column by column.
     pub fn merge(self, other: Situation) -> Merged
         ensures { λ r. ⌜ r ≡ mergeOf self other ⌝ }
     {
-        let first = self.fault();
-        if first.number != 0 {
+        let refusal = self.merge_fault(other);
+        if refusal.number != 0 {
             return Merged {
-                refusal: first,
-                situation: self,
-            };
-        }
-        let second = other.fault();
-        if second.number != 0 {
-            return Merged {
-                refusal: second,
+                refusal,
                 situation: self,
             };
         }
         let length = self.length;
-        let others = other.length;
-        if length != others {
-            return Merged {
-                refusal: refusals::refused(SITUATION, others),
-                situation: self,
-            };
-        }
         let answers = self.answers;
         let more = other.answers;
         Merged {
-            refusal: refusals::none(),
+            refusal,
             situation: Situation {
                 length,
                 answers: joined(answers, more, length),

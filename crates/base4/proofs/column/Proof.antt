@@ -1,7 +1,8 @@
-use Rattle.situations.proofs.Columns.{column-digit, column-none}
+use Rattle.situations.proofs.Columns.{column-digit}
+use Rattle.base4.proofs.Spellings.{column-none}
 use borrow.Author.Needs.{needs}
-use Rattle.situations.proofs.base4.column.Statement.{statement}
-use Rattle.situations.proofs.base4.column.Tie as tie
+use Rattle.base4.proofs.column.Statement.{statement}
+use Rattle.base4.proofs.column.Tie as tie
 
 returns : tie.Need-returns
 returns c = search (needs, column-digit)

@@ -1,7 +1,7 @@
-use Rattle.situations.proofs.Weights.{digit-large, digit-shift}
+use Rattle.base4.proofs.Shifts.{digit-large, digit-shift}
 use borrow.Author.Needs.{needs}
-use Rattle.situations.proofs.base4.digit.Statement.{statement}
-use Rattle.situations.proofs.base4.digit.Tie as tie
+use Rattle.base4.proofs.digit.Statement.{statement}
+use Rattle.base4.proofs.digit.Tie as tie
 
 returns : tie.Need-returns
 returns c = search (needs, digit-large)

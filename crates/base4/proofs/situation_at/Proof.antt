@@ -1,10 +1,10 @@
 use borrow.Author.Needs.{needs}
 use Prim.Native.Nat.{_-_}
 use Rattle.situations.specs.Meaning.{situationAt}
-use Rattle.situations.specs.Inside.{Spelling}
-use Rattle.situations.proofs.Columns.{spelling-none, spelling-more, spelling-all}
-use Rattle.situations.proofs.base4.situation_at.Statement.{statement}
-use Rattle.situations.proofs.base4.situation_at.Tie as tie
+use Rattle.base4.specs.Inside.{Spelling}
+use Rattle.base4.proofs.Spellings.{spelling-none, spelling-more, spelling-all}
+use Rattle.base4.proofs.situation_at.Statement.{statement}
+use Rattle.base4.proofs.situation_at.Tie as tie
 
 abbrev Inv-loop : tie.InvT-loop
 Inv-loop n w answers₀ i₀ answers i = Spelling (situationAt n w) answers i

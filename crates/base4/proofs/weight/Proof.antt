@@ -1,7 +1,7 @@
-use Rattle.situations.proofs.Weights.{weight-large, weight-shift}
+use Rattle.base4.proofs.Shifts.{weight-large, weight-shift}
 use borrow.Author.Needs.{needs}
-use Rattle.situations.proofs.base4.weight.Statement.{statement}
-use Rattle.situations.proofs.base4.weight.Tie as tie
+use Rattle.base4.proofs.weight.Statement.{statement}
+use Rattle.base4.proofs.weight.Tie as tie
 
 returns : tie.Need-returns
 returns c = search (needs, weight-large)

@@ -11,9 +11,9 @@ use native.Mathlib.Omega.{arith}
 use Rattle.answers.specs.Meaning.{number, fromNumber}
 use Rattle.answers.specs.declared.Answer.{Answer}
 use Rattle.answers.proofs.Claims.{number-small}
 use Rattle.situations.specs.Meaning.{answersOf, indexOnto, index}
-use Rattle.situations.specs.Inside.{Indexing}
+use Rattle.base4.specs.Inside.{Indexing}
 use Rattle.situations.proofs.Weights.{power-small}
 
 pub indexing-none : (s : List ℕ) → Indexing s 0 0
 indexing-none s = record { inside = omega arith; counted = omega arith; small = omega arith; rest = refl }

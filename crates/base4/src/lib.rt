@@ -5,8 +5,8 @@ ghost use mathlib.Core.Path.{_≡_};
 ghost use lib.ListN.{take, getD};
 ghost use Rattle.answers.specs.Meaning.{number};
 ghost use Rattle.answers.specs.declared.Answer.the-variants.{Silent};
 ghost use Rattle.situations.specs.Meaning.{answersOf, weight, digit, index, situationAt, byValue};
-use crate::Situation;
+use situations::Situation;
 
 // The weight of a digit, which is also how many situations of e columns there are; 0 above 6.
 pub fn weight(e: usize) -> usize

@@ -1,10 +1,10 @@
 use borrow.Author.Needs.{needs}
 use Prim.Native.Nat.{_-_}
 use lib.ListN.{length}
-use Rattle.situations.specs.Inside.{Indexing}
-use Rattle.situations.proofs.Indexes.{indexing-none, indexing-times, indexing-sum, indexing-more, indexing-six, indexing-all}
-use Rattle.situations.proofs.base4.index.Statement.{statement}
-use Rattle.situations.proofs.base4.index.Tie as tie
+use Rattle.base4.specs.Inside.{Indexing}
+use Rattle.base4.proofs.Indexes.{indexing-none, indexing-times, indexing-sum, indexing-more, indexing-six, indexing-all}
+use Rattle.base4.proofs.index.Statement.{statement}
+use Rattle.base4.proofs.index.Tie as tie
 
 abbrev Inv-loop : tie.InvT-loop
 Inv-loop situation w₀ i₀ w i = Indexing situation w i

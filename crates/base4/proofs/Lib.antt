@@ -1,0 +1,3 @@
+pub mod Shifts
+pub mod Spellings
+pub mod Indexes
