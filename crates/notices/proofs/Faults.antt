@@ -5,8 +5,7 @@ use mathlib.Core.Bool.{Bool, true, false, cond}
 use mathlib.Core.List.{List}
 use native.Mathlib.Omega.{arith}
 use lib.Dec.{ltb, eqb}
-use lib.ListN.{length, getD, take, drop, length-drop}
-use lib.Seq.{take-all}
+use lib.ListN.{length, getD}
 use borrow.Author.Tests.{lt-ltb, le-ltb, ltb-false, eqb-true, eqb-false, eq-eqb, ne-eqb}
 use Rattle.refusals.specs.declared.Refusal.{Refusal}
 use Rattle.refusals.specs.Meaning.{none, refused, SHORT, TAG, LEN, RISE, FACTS}
@@ -87,11 +86,3 @@ fault-none left at least s h =
       whole = ltb-false (length s) 9 (t .3);
       rises = ltb-false (firstFact s .number) least (t .4);
     }
-
--- The fault that was computed is none, so the field stands whole, and one more fact was allowed.
-module _ (left at least : ℕ) (s : List ℕ) (r : Refusal) (e : r ≡ fault left at least s) (z : r .number ≡ 0) where
-  pub field-sound : Sound left least s
-  field-sound = fault-none left at least s (sym (ap (λ (x : Refusal). x .number) e) ∙ z)
-
-pub rest-is : (s : List ℕ) → take (length s - 9) (drop 9 s) ≡ drop 9 s
-rest-is s = take-all (length s - 9) (drop 9 s) (simp length-drop (omega arith))

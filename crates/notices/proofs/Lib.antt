@@ -1,3 +1,5 @@
+pub mod Counts
 pub mod Faults
 pub mod Found
-pub mod Rests
+pub mod Lookups
+pub mod SoundFields

@@ -8,9 +8,10 @@
 // FACTS; another length than 6, LEN; a value past the end, SHORT; a number that does not pass the last one, RISE.
 // The place is the field's offset in the whole notice.
 ghost use mathlib.Core.Path.{_≡_};
-ghost use Prim.Native.Nat.{_-_};
+ghost use Prim.Native.Nat.{_+_, _-_, _≤_};
+ghost use lib.ListN.{length};
 ghost use Rattle.notices.specs.Meaning.{fault, factsIn, seen, compare, present, noticeOf};
-ghost use Rattle.notices.specs.Inside.{RestAt, restOf};
+ghost use Rattle.notices.specs.Inside.{sound, sounds, leastAt, fieldsIn};
 use refusals::FACTS;
 use refusals::LEN;
 use refusals::RISE;
@@ -76,55 +77,102 @@ fn fault(rest: &[u8], at: usize, facts: usize, least: u32) -> Refusal
     none()
 }
 
-// The rest of a notice, read as a notice of its own: it stands at the offset `at`, `facts` were read before it, and its
-// first number must be at least `least`.
-fn read_rest(rest: &[u8], at: usize, facts: usize, least: u32) -> Noticed
-    requires { ⌜ RestAt at facts ⌝ }
-    ensures { λ r. ⌜ r ≡ restOf (32 - facts) facts at least (now (rest .entry)) ⌝ }
+// Whether there is nothing wrong with the field that `rest` starts with: `fault` with no number and no place to tell, in
+// fewer tests.
+fn sound(rest: &[u8], facts: usize, least: u32) -> bool
+    ensures { λ r. ⌜ r ≡ sound (32 - facts) least (now (rest .entry)) ⌝ }
 {
-    if rest.len() == 0 {
-        return Noticed {
-            refusal: none(),
-            facts,
-        };
+    if rest.len() < FIELD {
+        return false;
     }
-    let refusal = fault(rest, at, facts, least);
-    if refusal.number != 0 {
-        return Noticed { refusal, facts: 0 };
+    if fields::tag(rest) != FACT {
+        return false;
     }
-    let last = fields::two(rest[3], rest[4]);
-    read_rest(&rest[FIELD..], at + FIELD, facts + 1, last + 1)
+    if facts >= MOST_FACTS {
+        return false;
+    }
+    if fields::size(rest) != SIZE {
+        return false;
+    }
+    let number = fields::two(rest[3], rest[4]);
+    least <= number
+}
+
+// How many facts there are, `facts` before the rest and those in it until a field is refused or the notice ends. The rest is
+// read as a notice of its own, save that its first number must be at least `least`. The count is one number, which a call
+// hands back in a register; a refusal takes memory at every fact.
+fn count_facts(rest: &[u8], facts: usize, least: u32) -> usize
+    requires { ⌜ facts ≤ 32 ⌝ }
+    ensures { λ r. ⌜ r ≡ facts + sounds (32 - facts) least (now (rest .entry)) ⌝ }
+{
+    if sound(rest, facts, least) {
+        let last = fields::two(rest[3], rest[4]);
+        return count_facts(&rest[FIELD..], facts + 1, last + 1);
+    }
+    facts
+}
+
+// The least number that the fact at an offset may have: more than the one before it.
+fn least_at(notice: &[u8], at: usize) -> u32
+    requires { ⌜ at ≤ length (now notice) ⌝ }
+    ensures { λ r. ⌜ r ≡ leastAt (now (notice .entry)) at ⌝ }
+{
+    if at < FIELD {
+        return 0;
+    }
+    let last = fields::two(notice[at - 6], notice[at - 5]);
+    last + 1
 }
 
 // How many facts the notice holds, or what is wrong with it.
 pub fn read_notice(notice: &[u8]) -> Noticed
     ensures { λ r. ⌜ r ≡ noticeOf (now (notice .entry)) ⌝ }
 {
-    read_rest(notice, 0, 0, 0)
+    let facts = count_facts(notice, 0, 0);
+    let at = facts * FIELD;
+    if notice.len() <= at {
+        return Noticed {
+            refusal: none(),
+            facts,
+        };
+    }
+    let least = least_at(notice, at);
+    Noticed {
+        refusal: fault(&notice[at..], at, facts, least),
+        facts: 0,
+    }
 }
 
-// What at most `left` fields from the start of `rest` say of the fact.
-fn seek(rest: &[u8], fact: u32, left: usize) -> Seen
-    ensures { λ r. ⌜ r ≡ seen (factsIn left (now (rest .entry))) fact ⌝ }
+// How many fields are looked through for a fact: those that stand whole, 32 at the most.
+fn fields_in(notice: &[u8]) -> usize
+    ensures { λ r. ⌜ r ≡ fieldsIn (now (notice .entry)) ⌝ }
 {
-    if left == 0 {
-        return Seen::Absent;
+    let whole = notice.len() / FIELD;
+    if MOST_FACTS < whole {
+        return MOST_FACTS;
     }
-    if rest.len() < FIELD {
-        return Seen::Absent;
-    }
-    let number = fields::two(rest[3], rest[4]);
-    if number == fact {
-        return Seen::Value(fields::four(rest[5], rest[6], rest[7], rest[8]));
-    }
-    seek(&rest[FIELD..], fact, left - 1)
+    whole
 }
 
 // What the notice says of a fact.
 pub fn look_up(notice: &[u8], fact: u32) -> Seen
     ensures { λ r. ⌜ r ≡ seen (factsIn 32 (now (notice .entry))) fact ⌝ }
 {
-    seek(notice, fact, MOST_FACTS)
+    let count = fields_in(notice);
+    let mut i = 0;
+    while i < count {
+        let at = i * FIELD;
+        if fields::two(notice[at + 3], notice[at + 4]) == fact {
+            return Seen::Value(fields::four(
+                notice[at + 5],
+                notice[at + 6],
+                notice[at + 7],
+                notice[at + 8],
+            ));
+        }
+        i += 1;
+    }
+    Seen::Absent
 }
 
 // Whether a fact's value compares so with another.
