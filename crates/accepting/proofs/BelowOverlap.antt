@@ -11,7 +11,8 @@ use Rattle.fields.specs.Meaning.{shortHeader, shortValue, firstAbove}
 use Rattle.situations.specs.Meaning.{outside}
 use Rattle.rows.specs.Meaning.{rowWidth}
 use Rattle.tables.specs.declared.TableRead.{TableRead}
-use Rattle.tables.specs.Meaning.{columnsOf, rowsStart, rowsPart, otherTag, rowTooMany, otherLength, cellsAt, valueFault, columnsFault, rowFault, refuseTable, acceptTable, rowsFrom, fieldsOf}
+use Rattle.faults.specs.Meaning.{columnsOf, otherTag, rowTooMany, otherLength, cellsAt, valueFault, columnsFault, rowFault}
+use Rattle.tables.specs.Meaning.{rowsStart, rowsPart, refuseTable, acceptTable, rowsFrom, fieldsOf}
 
 record Small (r : Refusal) : Type 0 where
   below : r .number ≤ 6

@@ -14,8 +14,8 @@ use Rattle.fields.proofs.Above.{firstAbove-all, firstAbove-before}
 use Rattle.answers.specs.Meaning.{number, fromNumber}
 use Rattle.answers.proofs.Claims.{number-from, from-number, number-small}
 use Rattle.rows.specs.Meaning.{Cell, is, any, Row, cellByte, rowField, rowWidth, cellOf, cellBytes, rowOf}
-use Rattle.tables.specs.Meaning.{cellsAt, valueFault, rowFault}
-use Rattle.tables.proofs.RowFaults.{rowFault-sound}
+use Rattle.faults.specs.Meaning.{cellsAt, valueFault, rowFault}
+use Rattle.faults.proofs.RowFaults.{rowFault-sound}
 
 -- a cell, a row of cells and their bytes
 cell-byte : (c : Cell) → cellOf (cellByte c) ≡ c

@@ -7,8 +7,9 @@ use lib.Seq.{take-at, drop-at}
 use native.Mathlib.Nat.{add-zero, zero-mul, suc-mul}
 use native.Mathlib.Omega.{arith}
 use Rattle.rows.specs.Meaning.{Row, row, rowField, rowFields, rowWidth, rowOf, rowsIn}
-use Rattle.tables.specs.Meaning.{rowFault, acceptTable, rowsFrom}
-use Rattle.tables.proofs.RowFaults.{rowFault-sound}
+use Rattle.faults.specs.Meaning.{rowFault}
+use Rattle.tables.specs.Meaning.{acceptTable, rowsFrom}
+use Rattle.faults.proofs.RowFaults.{rowFault-sound}
 use Rattle.tables.proofs.RowsRead.{rowsFrom-end, rowsFrom-pass}
 use Rattle.tables.proofs.Accepted.{rowsFrom-each}
 use Rattle.accepting.proofs.RowsIn.{rowsIn-none, rowsIn-next}

@@ -14,7 +14,8 @@ use Rattle.refusals.specs.Meaning.{after, OVERLAP}
 use Rattle.refusals.specs.declared.Refusal.{Refusal}
 use Rattle.rows.specs.Meaning.{row, rowWidth, rowBytes, rowOf, rowsIn, firstOverlap}
 use Rattle.tables.specs.declared.TableRead.{TableRead}
-use Rattle.tables.specs.Meaning.{Table, WellFormed, Consistent, FirstDisagreement, tableBytes, columnsOf, rowsStart, rowsPart, tableOf, columnsFault, refuseTable, acceptTable, fieldsOf, readOf}
+use Rattle.faults.specs.Meaning.{columnsOf, columnsFault}
+use Rattle.tables.specs.Meaning.{Table, WellFormed, Consistent, FirstDisagreement, tableBytes, rowsStart, rowsPart, tableOf, refuseTable, acceptTable, fieldsOf, readOf}
 use Rattle.tables.proofs.ReadReturns.{readOf-overlap, readOf-accepts}
 use Rattle.tables.proofs.Accepted.{FieldsRead, fields-read, read-accepted}
 use Rattle.accepting.proofs.RowsIn.{rowsIn-length, rowsIn-row}

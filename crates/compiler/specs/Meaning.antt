@@ -1,102 +1,29 @@
--- Compiling: the nodes of a table, how many they are, and what a call replies and writes.
-use Prim.Native.Nat.{ℕ, suc, _+_, _-_, _*_, _%_}
-use mathlib.Core.Bool.{Bool, cond}
-use mathlib.Core.List.{List, [], _∷_, _++_, map}
+-- Compiling: what a call replies and writes.
+use Prim.Native.Nat.{ℕ}
+use mathlib.Core.Bool.{cond}
+use mathlib.Core.List.{List, _++_}
 use lib.Dec.{ltb, eqb}
-use lib.ListN.{length, drop, replicate}
+use lib.ListN.{length, drop}
 use Rattle.refusals.specs.Meaning.{none, refused, after, ROOM}
 use Rattle.refusals.specs.declared.Refusal.{Refusal}
-use Rattle.answers.specs.Meaning.{number}
-use Rattle.answers.specs.declared.Answer.{Answer}
-use Rattle.answers.specs.declared.Answer.the-variants.{Silent, Bury, Keep, Clash}
-use Rattle.rows.specs.Meaning.{Cell, is, any, Row}
-use Rattle.tables.specs.Meaning.{Table, readOf, tableOf}
+use Rattle.tables.specs.Meaning.{readOf, tableOf}
+use Rattle.formula.specs.Meaning.{tableNodes, tableSize}
 use Rattle.compiler.specs.declared.Compiled.{Compiled}
-
--- "Nodes 0 to 3: that constant. 4 negate, 5 turn, 6 meet, 7 join. 16 to 21: column 0 to 5."
--- A column and so many turns.
-unfoldable pub turned : ℕ → ℕ → List ℕ
-turned column k = (16 + column) ∷ replicate k 5
-
--- "A cell a other than any, in a row with outcome j, becomes one selector. Let k = 3 - a.
--- j keep: column, k turns; column, (k+3) mod 4 turns; meet. j bury: the same, then negate.
--- j clash: column, k turns; column, k turns, negate; meet." (No row with outcome silent is left.)
-unfoldable pub selector : ℕ → Answer → Answer → List ℕ
-selector column a Silent = []
-selector column a Keep = turned column (3 - number a) ++ turned column ((3 - number a + 3) % 4) ++ 6 ∷ []
-selector column a Bury = turned column (3 - number a) ++ turned column ((3 - number a + 3) % 4) ++ 6 ∷ 4 ∷ []
-selector column a Clash = turned column (3 - number a) ++ turned column (3 - number a) ++ 4 ∷ 6 ∷ []
-
--- The selectors of a row's cells, in column order.
-unfoldable pub selectors : ℕ → Answer → List Cell → List (List ℕ)
-selectors column j [] = []
-selectors column j (is a ∷ cells) = selector column a j ∷ selectors (suc column) j cells
-selectors column j (any ∷ cells) = selectors (suc column) j cells
-
--- Each part followed by an operator.
-unfoldable pub followed : ℕ → List (List ℕ) → List ℕ
-followed operator [] = []
-followed operator (part ∷ parts) = part ++ operator ∷ followed operator parts
-
--- The first part, then each further one followed by an operator; without any part a constant.
-unfoldable pub together : ℕ → ℕ → List (List ℕ) → List ℕ
-together operator constant [] = constant ∷ []
-together operator constant (part ∷ parts) = part ++ followed operator parts
-
--- "A row is its first selector, then each further selector followed by meet, in column order; with every cell any it is the constant j."
-unfoldable pub rowNodes : Row → List ℕ
-rowNodes r = together 6 (number (r .outcome)) (selectors 0 (r .outcome) (r .cells))
-
--- "Rows with outcome silent are left out."
-abbrev pub isSilent : Answer → Bool
-isSilent a = eqb (number a) 0
-
-unfoldable pub rowsLeft : List Row → List Row
-rowsLeft [] = []
-rowsLeft (r ∷ rows) = cond (isSilent (r .outcome)) (rowsLeft rows) (r ∷ rowsLeft rows)
-
--- "The table is its first row, then each further row followed by join; with no row left it is the constant 0."
-unfoldable pub tableNodes : Table → List ℕ
-tableNodes t = together 7 0 (map rowNodes (rowsLeft (t .rows)))
-
--- "Sizes: keep 1 + k + 1 + (k+3) mod 4 + 1; bury one more; clash 4 + 2k."
-unfoldable pub selectorSize : Answer → Answer → ℕ
-selectorSize a Silent = 0
-selectorSize a Keep = 1 + (3 - number a) + 1 + (3 - number a + 3) % 4 + 1
-selectorSize a Bury = 1 + (3 - number a) + 1 + (3 - number a + 3) % 4 + 1 + 1
-selectorSize a Clash = 4 + 2 * (3 - number a)
-
-unfoldable pub selectorSizes : Answer → List Cell → List ℕ
-selectorSizes j [] = []
-selectorSizes j (is a ∷ cells) = selectorSize a j ∷ selectorSizes j cells
-selectorSizes j (any ∷ cells) = selectorSizes j cells
-
-unfoldable pub total : List ℕ → ℕ
-total [] = 0
-total (x ∷ xs) = x + total xs
-
--- "A row of m selectors, m at least 1, adds m - 1; a row with none counts 1. A table of r rows left, r at least 1, adds r - 1;
--- with none it counts 1."
-unfoldable pub sizeOf : List ℕ → ℕ
-sizeOf [] = 1
-sizeOf (x ∷ xs) = total (x ∷ xs) + length xs
-
-unfoldable pub rowSize : Row → ℕ
-rowSize r = sizeOf (selectorSizes (r .outcome) (r .cells))
-
-unfoldable pub tableSize : Table → ℕ
-tableSize t = sizeOf (map rowSize (rowsLeft (t .rows)))
 
 -- "A refusal returns .. any other result number 0."
 abbrev pub refuseCompiled : Refusal → Compiled
 refuseCompiled r = record { refusal = r; columns = 0; rows = 0; nodes = 0 }
 
--- The reader's refusals, then "ROOM exactly when the sum exceeds the lent buffer's length" (place: nodes needed).
+-- Of a table that was read: "ROOM exactly when the sum exceeds the lent buffer's length" (place: nodes needed).
+abbrev pub replyOf : ℕ → ℕ → ℕ → ℕ → Compiled
+replyOf room needed columns rows =
+    cond (ltb room needed) (refuseCompiled (refused ROOM needed))
+    (record { refusal = none; columns = columns; rows = rows; nodes = needed })
+
+-- The reader's refusals, then this one.
 unfoldable pub compileOf : List ℕ → ℕ → Compiled
 compileOf t room =
-    after (readOf t .refusal) refuseCompiled
-    (cond (ltb room (tableSize (tableOf t))) (refuseCompiled (refused ROOM (tableSize (tableOf t))))
-    (record { refusal = none; columns = readOf t .columns; rows = readOf t .rows; nodes = tableSize (tableOf t) }))
+    after (readOf t .refusal) refuseCompiled (replyOf room (tableSize (tableOf t)) (readOf t .columns) (readOf t .rows))
 
 -- "On acceptance the first bytes are the nodes and the rest are unchanged." A refusal "changes no lent byte".
 unfoldable pub writtenOf : List ℕ → List ℕ → List ℕ

@@ -5,10 +5,7 @@
 // It refuses as reading does, then by ROOM (place: nodes needed).
 ghost use mathlib.Core.Path.{_≡_};
 ghost use lib.ListN.{length};
-ghost use Rattle.compiler.specs.Meaning.{refuseCompiled, compileOf, writtenOf};
-
-mod writing;
-
+ghost use Rattle.compiler.specs.Meaning.{refuseCompiled, replyOf, compileOf, writtenOf};
 use refusals::ROOM;
 use refusals::Refusal;
 use refusals::none;
@@ -33,28 +30,31 @@ fn refuse(refusal: Refusal) -> Compiled
     }
 }
 
-// Compiles a table. The nodes are counted before the first of them is written.
+// What is replied of a table that was read: ROOM where its nodes do not fit.
+fn reply(room: usize, needed: usize, columns: usize, rows: usize) -> Compiled
+    ensures { λ r. ⌜ r ≡ replyOf room needed columns rows ⌝ }
+{
+    if room < needed {
+        return refuse(refused(ROOM, needed));
+    }
+    Compiled {
+        refusal: none(),
+        columns,
+        rows,
+        nodes: needed,
+    }
+}
+
+// Compiles a table. Nothing is written where the nodes do not fit.
 pub fn compile(table: &[u8], nodes: &mut [u8]) -> Compiled
     ensures reply { λ r. ⌜ r ≡ compileOf (now (table .entry)) (length (now (nodes .entry))) ⌝ }
     ensures written { λ r. ⌜ now (nodes .exit) ≡ writtenOf (now (table .entry)) (now (nodes .entry)) ⌝ }
 {
     let read = tables::read_table(table);
-    let fault = read.refusal;
-    if fault.number != 0 {
+    if read.refusal.number != 0 {
+        let fault = read.refusal;
         return refuse(fault);
     }
-    let columns = read.columns;
-    let count = read.rows;
-    let rows = tables::rows_of(table);
-    let needed = writing::count_table(rows, columns, count);
-    if nodes.len() < needed {
-        return refuse(refused(ROOM, needed));
-    }
-    writing::put_table(nodes, rows, columns, count);
-    Compiled {
-        refusal: none(),
-        columns,
-        rows: count,
-        nodes: needed,
-    }
+    let needed = writing::put_table(nodes, tables::rows_of(table), read.columns, read.rows);
+    reply(nodes.len(), needed, read.columns, read.rows)
 }

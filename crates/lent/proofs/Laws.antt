@@ -1,11 +1,15 @@
 -- Writing into a lent buffer: one run of bytes behind another, and what is left of a whole.
 use Prim.Native.Nat.{ℕ, suc, _+_, _≤_, _<_}
+use mathlib.Core.Bool.{Bool, true, false, cond}
 use mathlib.Core.Path.{_≡_, refl, ap, sym, _∙_}
 use mathlib.Core.List.{List, [], _∷_, _++_}
+use lib.Dec.{ltb}
 use lib.ListN.{length, set, length-append, length-set}
-use lib.Seq.{sets}
+use lib.Seq.{sets, length-sets}
+use borrow.Author.Tests.{lt-ltb, le-ltb}
 use native.Mathlib.Nat.{add-zero}
 use native.Mathlib.Omega.{arith}
+use Rattle.lent.specs.Meaning.{Placed}
 use Rattle.lent.specs.Inside.{Wrote, Writing}
 
 pub sets-append : (l : List ℕ) (i : ℕ) (xs ys : List ℕ) → sets l i (xs ++ ys) ≡ sets (sets l i xs) (i + length xs) ys
@@ -69,19 +73,36 @@ module _ {old new : List ℕ} {at next : ℕ} {whole rest : List ℕ} (w : Writi
       let p = w .ends in
       omega arith
 
--- the same of a first part, and of a second one behind it
+-- the same of a first part
 pub within-first : (xs ys : List ℕ) {whole : List ℕ} → whole ≡ xs ++ ys → (at most : ℕ) → at + length whole ≤ most → at + length xs ≤ most
 within-first xs ys e at most h = let size = ap length e ∙ length-append xs ys in omega arith
 
-pub within-second :
-    (xs ys : List ℕ) {whole : List ℕ} →
-    whole ≡ xs ++ ys →
-    {b c : List ℕ} {at m : ℕ} →
-    Wrote b at xs c m →
-    (most : ℕ) →
-    at + length whole ≤ most →
-    m + length ys ≤ most
-within-second xs ys e w most h =
-    let size = ap length e ∙ length-append xs ys in
-    let next = w .ends in
-    omega arith
+-- what public functions promise, and what they say inside
+pub placed-none : (b : List ℕ) (i : ℕ) → Placed b i [] b i
+placed-none b i = record { ends = sym (add-zero i); holds = same (ltb (length b) (i + 0)) }
+  where
+    same : (s : Bool) → b ≡ cond s b b
+    same true = refl
+    same false = refl
+
+pub placed-counted : (b : List ℕ) (i : ℕ) (xs : List ℕ) {next : ℕ} → next ≡ i + length xs → length b < next → Placed b i xs b next
+placed-counted b i xs e l = record { ends = e; holds = rw (lt-ltb (length b) (i + length xs) (omega arith)) }
+
+pub placed-written : {b xs c : List ℕ} {i next : ℕ} → Wrote b i xs c next → next ≤ length b → Placed b i xs c next
+placed-written {b} {xs} {i = i} w l =
+    let e = w .ends in
+    record { ends = e; holds = rw (le-ltb (length b) (i + length xs) (omega arith)) (w .holds l) }
+
+module _ {b xs c : List ℕ} {i next : ℕ} (p : Placed b i xs c next) where
+  pub placed-nothing : length b < next → c ≡ b
+  placed-nothing l = let e = p .ends in p .holds ∙ (rw (lt-ltb (length b) (i + length xs) (omega arith)))
+
+  pub placed-all : next ≤ length b → c ≡ sets b i xs
+  placed-all l = let e = p .ends in p .holds ∙ (rw (le-ltb (length b) (i + length xs) (omega arith)))
+
+  pub placed-wrote : Wrote b i xs c next
+  placed-wrote = record { ends = p .ends; holds = placed-all; long = same (ltb (length b) (i + length xs)) (p .holds) }
+    where
+      same : (s : Bool) → c ≡ cond s b (sets b i xs) → length c ≡ length b
+      same true e = ap length e
+      same false e = ap length e ∙ length-sets b i xs

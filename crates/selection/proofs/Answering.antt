@@ -17,7 +17,7 @@ use Rattle.rows.specs.Meaning.{Row, row, matches}
 use Rattle.tables.specs.Meaning.{Table, rowsSay}
 use Rattle.accepting.proofs.Saying.{Said, says-none, says-either}
 use Rattle.running.proofs.Leads.{Leads, still, leads-append, leads-constant, leads-join}
-use Rattle.compiler.specs.Meaning.{isSilent, rowNodes, rowsLeft, followed, together, tableNodes}
+use Rattle.formula.specs.Meaning.{isSilent, rowNodes, rowsLeft, followed, together, tableNodes}
 use Rattle.selection.proofs.Picking.{leads-row}
 
 -- what a row says alone, and all rows together

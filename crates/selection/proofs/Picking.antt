@@ -15,7 +15,7 @@ use Rattle.answers.proofs.Every.{each, all2}
 use Rattle.rows.specs.Meaning.{Cell, is, any, cellMatches, matches}
 use Rattle.running.proofs.Leads.{Leads, allNodes, still, leads-append, leads-constant, leads-column, leads-negate, leads-turn, leads-meet}
 use Rattle.nodes.specs.Inside.{turnedBy}
-use Rattle.compiler.specs.Meaning.{turned, selector, selectors, followed, together}
+use Rattle.formula.specs.Meaning.{turned, selector, selectors, followed, together}
 
 -- what a selector makes of its column's answer
 unfoldable pub selected : Answer → Answer → Answer → Answer

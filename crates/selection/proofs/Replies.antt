@@ -11,8 +11,9 @@ use native.Mathlib.Omega.{arith}
 use Rattle.refusals.specs.Meaning.{none, refused, ROOM}
 use Rattle.tables.specs.Meaning.{readOf, tableOf}
 use Rattle.compiler.specs.declared.Compiled.{Compiled}
-use Rattle.compiler.specs.Meaning.{tableNodes, tableSize, refuseCompiled, compileOf, writtenOf}
-use Rattle.compiler.proofs.Formula.{table-size}
+use Rattle.formula.specs.Meaning.{tableNodes, tableSize}
+use Rattle.compiler.specs.Meaning.{refuseCompiled, compileOf, writtenOf}
+use Rattle.formula.proofs.Sizes.{table-size}
 
 -- the reply for a table that is read and fits, and for any by whether it is read and whether the room is too short
 abbrev pub acceptedReply : List ℕ → Compiled

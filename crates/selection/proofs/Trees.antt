@@ -11,7 +11,7 @@ use Rattle.situations.specs.Meaning.{fault, answersOf}
 use Rattle.tables.specs.Meaning.{Table, WellFormed, Consistent, says}
 use Rattle.nodes.specs.Meaning.{full, run, evaluateOf}
 use Rattle.running.proofs.Leads.{leads-answer}
-use Rattle.compiler.specs.Meaning.{tableNodes}
+use Rattle.formula.specs.Meaning.{tableNodes}
 use Rattle.selection.proofs.Answering.{Wide, Agree, together-says, table-leads}
 
 -- at every situation of the table's columns the nodes answer what the rows say

@@ -12,10 +12,11 @@ use Rattle.refusals.specs.declared.Refusal.{Refusal}
 use Rattle.rows.specs.Meaning.{rowWidth, rowCount, firstOverlap}
 use Rattle.rows.proofs.RowBytes.{rowCount-none, rowCount-next}
 use Rattle.tables.specs.declared.TableRead.{TableRead}
-use Rattle.tables.specs.Meaning.{columnsOf, rowsStart, rowsPart, columnsFault, rowFault, refuseTable, acceptTable, rowsFrom, fieldsOf, readOf}
-use Rattle.tables.specs.Inside.{SoundColumns, SoundRow}
-use Rattle.tables.proofs.FirstField.{columnsFault-sound}
-use Rattle.tables.proofs.RowFaults.{rowFault-sound}
+use Rattle.faults.specs.Meaning.{columnsOf, columnsFault, rowFault}
+use Rattle.tables.specs.Meaning.{rowsStart, rowsPart, refuseTable, acceptTable, rowsFrom, fieldsOf, readOf}
+use Rattle.faults.specs.Inside.{SoundColumns, SoundRow}
+use Rattle.faults.proofs.FirstField.{columnsFault-sound}
+use Rattle.faults.proofs.RowFaults.{rowFault-sound}
 use Rattle.tables.proofs.RowsRead.{rowsFrom-end, rowsFrom-stop, rowsFrom-pass}
 
 -- a row is read where nothing is refused

@@ -6,7 +6,8 @@ use borrow.Author.Tests.{eq-eqb, ne-eqb}
 use Rattle.refusals.specs.declared.Refusal.{Refusal}
 use Rattle.rows.specs.Meaning.{firstOverlap}
 use Rattle.tables.specs.declared.TableRead.{TableRead}
-use Rattle.tables.specs.Meaning.{columnsOf, rowsStart, rowsPart, columnsFault, refuseTable, rowsFrom, fieldsOf, readOf}
+use Rattle.faults.specs.Meaning.{columnsOf, columnsFault}
+use Rattle.tables.specs.Meaning.{rowsStart, rowsPart, refuseTable, rowsFrom, fieldsOf, readOf}
 
 -- the first field, then the rows
 module _ (t : List ℕ) {r : Refusal} (e : r ≡ columnsFault t) {q : TableRead} where

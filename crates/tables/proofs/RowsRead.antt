@@ -1,5 +1,5 @@
 -- One row after another: the laws of reading a part from its front, and the loop that does it.
-use Prim.Native.Nat.{ℕ, zero, suc, _+_, _-_, _≤_, _<_}
+use Prim.Native.Nat.{ℕ, zero, suc, _+_, _-_, _%_, _≤_, _<_}
 use mathlib.Core.Path.{_≡_, refl, ap, sym, _∙_}
 use mathlib.Core.List.{List}
 use lib.ListN.{length, take, drop, length-drop}
@@ -8,12 +8,14 @@ use borrow.Author.Tests.{eq-eqb, ne-eqb}
 use native.Mathlib.Omega.{arith}
 use Rattle.refusals.specs.Meaning.{none}
 use Rattle.refusals.specs.declared.Refusal.{Refusal}
+use Rattle.fields.proofs.Rests.{rest-is}
 use Rattle.rows.specs.Meaning.{rowWidth}
 use Rattle.tables.specs.declared.TableRead.{TableRead}
-use Rattle.tables.specs.Meaning.{rowsStart, rowFault, refuseTable, acceptTable, rowsFrom}
-use Rattle.tables.specs.Inside.{SoundRow, Reading}
-use Rattle.tables.proofs.FirstField.{rest-is}
-use Rattle.tables.proofs.RowFaults.{rowFault-sound}
+use Rattle.faults.specs.Meaning.{rowFault}
+use Rattle.tables.specs.Meaning.{rowsStart, refuseTable, acceptTable, rowsFrom}
+use Rattle.faults.specs.Inside.{SoundRow}
+use Rattle.tables.specs.Inside.{Reading}
+use Rattle.faults.proofs.RowFaults.{rowFault-sound}
 
 pub rowsFrom-end : (left n at : ℕ) (rows : List ℕ) → length rows ≡ 0 → rowsFrom left n at rows ≡ acceptTable n (64 - left)
 unfolding rowsFrom
@@ -53,23 +55,34 @@ module _ (n : ℕ) (rows : List ℕ) (at left : ℕ) (w : Reading n rows at left
   reading-all l e =
       rw e (sym (rowsFrom-end left n (rowsStart + at) (drop at rows) (simp length-drop (omega arith))) ∙ w .rest)
 
-  module _ (l : at < length rows) {r : Refusal} (e : r ≡ rowFault left n (rowsStart + at) (take (length rows - at) (drop at rows))) where
+  module _
+      (l : at < length rows)
+      {r : Refusal}
+      (e : r ≡ rowFault left (n % 8) ((rowsStart + at) % 1024) (take (length rows - at) (drop at rows))) where
     some : length (drop at rows) ≡ 0 → ⊥
     some z = absurd (omega (arith, z, length-drop at rows))
 
-    fault-is : r .number ≡ rowFault left n (rowsStart + at) (drop at rows) .number
-    fault-is = ap (λ (x : Refusal). x .number) (rw (rest-is at rows) at e)
+    fault-is : r ≡ rowFault left n (rowsStart + at) (drop at rows)
+    fault-is =
+        let narrow = w .narrow in
+        let near = w .near in
+        let columns : n % 8 ≡ n = omega arith in
+        let place : (rowsStart + at) % 1024 ≡ rowsStart + at = omega arith in
+        rw (columns, place, rest-is at rows) at e
+
+    number-is : r .number ≡ rowFault left n (rowsStart + at) (drop at rows) .number
+    number-is = ap (λ (x : Refusal). x .number) fault-is
 
     pub reading-stop : {q : TableRead} → (r .number ≡ 0 → ⊥) → q ≡ refuseTable r → q ≡ rowsFrom 64 n rowsStart rows
     reading-stop h k =
         k
-        ∙ ap refuseTable (rw (rest-is at rows) at e)
-        ∙ sym (rowsFrom-stop left n (rowsStart + at) (drop at rows) some (λ z. h (fault-is ∙ z)))
+        ∙ ap refuseTable fault-is
+        ∙ sym (rowsFrom-stop left n (rowsStart + at) (drop at rows) some (λ z. h (number-is ∙ z)))
         ∙ w .rest
 
     module _ (h : r .number ≡ 0) where
       sound : SoundRow left n (rowsStart + at) (drop at rows)
-      sound = rowFault-sound left n (rowsStart + at) (drop at rows) (sym fault-is ∙ h)
+      sound = rowFault-sound left n (rowsStart + at) (drop at rows) (sym number-is ∙ h)
 
       pub reading-left : 1 ≤ left
       reading-left = sound .more
@@ -87,5 +100,5 @@ module _ (n : ℕ) (rows : List ℕ) (at left : ℕ) (w : Reading n rows at left
             few = omega arith;
             rest =
                 rw (next, ← drop-drop (rowWidth n) at rows)
-                (sym (rowsFrom-pass left n (rowsStart + at) (drop at rows) some (sym fault-is ∙ h)) ∙ w .rest);
+                (sym (rowsFrom-pass left n (rowsStart + at) (drop at rows) some (sym number-is ∙ h)) ∙ w .rest);
           }

@@ -1,16 +1,16 @@
 -- Tables: what one is, its bytes, what it says of a situation, and how bytes are read as one.
 use Prim.Native.Nat.{ℕ, zero, suc, _+_, _-_, _≤_, _<_}
 use mathlib.Core.Path.{_≡_}
-use mathlib.Core.Bool.{Bool, cond, not}
+use mathlib.Core.Bool.{cond}
 use mathlib.Core.List.{List, [], _∷_, _++_}
-use lib.Dec.{T, ltb, eqb}
-use lib.ListN.{length, take, drop, getD}
-use Rattle.refusals.specs.Meaning.{none, refused, after, SHORT, START, TAG, LEN, VALUE, ROWS}
+use lib.Dec.{T, eqb}
+use lib.ListN.{length, drop}
+use Rattle.refusals.specs.Meaning.{none, after}
 use Rattle.refusals.specs.declared.Refusal.{Refusal}
-use Rattle.fields.specs.Meaning.{field, tag, size, shortHeader, shortValue, firstAbove}
+use Rattle.fields.specs.Meaning.{field}
 use Rattle.answers.specs.declared.Answer.{Answer}
 use Rattle.answers.specs.declared.Answer.the-variants.{Silent}
-use Rattle.situations.specs.Meaning.{outside}
+use Rattle.faults.specs.Meaning.{columnsOf, columnsFault, rowFault}
 use Rattle.rows.specs.Meaning.{Row, row, matches, rowFields, rowWidth, rowsIn, Disagree, firstOverlap}
 use Rattle.tables.specs.declared.TableRead.{TableRead}
 
@@ -62,11 +62,7 @@ pub record FirstDisagreement (t : Table) (later earlier : ℕ) : Type 0 where
 abbrev pub tableBytes : Table → List ℕ
 tableBytes t = field 1 (t .columns ∷ []) ++ rowFields (t .rows)
 
--- The table that bytes are: its columns stand in the first field, behind a header of three bytes ..
-abbrev pub columnsOf : List ℕ → ℕ
-columnsOf t = getD t 3 0
-
--- .. and its rows in the part behind that field.
+-- The table that bytes are: its columns stand in the first field, and its rows in the part behind that field.
 abbrev pub rowsStart : ℕ
 rowsStart = 4
 
@@ -76,48 +72,7 @@ rowsPart t = drop rowsStart t
 abbrev pub tableOf : List ℕ → Table
 tableOf t = record { columns = columnsOf t; rows = rowsIn (columnsOf t) (rowsPart t) }
 
--- How bytes are read: the faults of the field that they start with, each by itself. The short ones are those of fields.
-
--- "Tag not 1 at offset 0, START; later tag not 2, TAG."
-abbrev pub otherTag : ℕ → List ℕ → Bool
-otherTag wanted s = not (eqb (tag s) wanted)
-
--- "A 65th row, ROWS": no row is left of the 64.
-abbrev pub rowTooMany : ℕ → Bool
-rowTooMany left = eqb left 0
-
--- "Wrong length, LEN."
-abbrev pub otherLength : ℕ → List ℕ → Bool
-otherLength wanted s = not (eqb (size s) wanted)
-
--- "Value out of range, VALUE .. the offset of its first byte out of range": of n cells behind a row's header, then the outcome.
-abbrev pub cellsAt : ℕ → List ℕ → List ℕ
-cellsAt n row = take n (drop 3 row)
-
-unfoldable pub valueFault : ℕ → ℕ → List ℕ → Refusal
-valueFault n at row =
-    cond (ltb (firstAbove 4 (cellsAt n row)) n) (refused VALUE (at + (3 + firstAbove 4 (cellsAt n row))))
-    (cond (ltb 3 (getD row (3 + n) 0)) (refused VALUE (at + (3 + n))) none)
-
--- "An input of no bytes is START at 0." Then the faults of the first field in their order, with its offset 0.
-unfoldable pub columnsFault : List ℕ → Refusal
-columnsFault t =
-    cond (eqb (length t) 0) (refused START 0)
-    (cond (shortHeader t) (refused SHORT 0)
-    (cond (otherTag 1 t) (refused START 0)
-    (cond (otherLength 1 t) (refused LEN 0)
-    (cond (shortValue 1 t) (refused SHORT 0)
-    (cond (outside (columnsOf t)) (refused VALUE 3) none)))))
-
--- The faults of the row that a part starts with in their order, with its offset in the table, where so many rows are left of the 64.
-unfoldable pub rowFault : ℕ → ℕ → ℕ → List ℕ → Refusal
-rowFault left n at rows =
-    cond (shortHeader rows) (refused SHORT at)
-    (cond (otherTag 2 rows) (refused TAG at)
-    (cond (rowTooMany left) (refused ROWS at)
-    (cond (otherLength (n + 1) rows) (refused LEN at)
-    (cond (shortValue (n + 1) rows) (refused SHORT at)
-    (valueFault n at rows)))))
+-- How bytes are read. The faults of one field are those of faults.
 
 -- "A refusal returns .. any other result number 0."
 abbrev pub refuseTable : Refusal → TableRead

@@ -7,10 +7,8 @@
 // for a byte out of range (place: that byte). After all fields: OVERLAP (place: the later row, second: the earlier one).
 ghost use mathlib.Core.Path.{_≡_};
 ghost use Prim.Native.Nat.{_≤_};
-ghost use Rattle.tables.specs.Meaning.{columnsOf, rowsStart, rowsPart, refuseTable, rowsFrom, fieldsOf, readOf};
-
-mod faults;
-
+ghost use Rattle.faults.specs.Meaning.{columnsOf};
+ghost use Rattle.tables.specs.Meaning.{rowsStart, rowsPart, refuseTable, rowsFrom, fieldsOf, readOf};
 use fields::HEADER;
 use refusals::Refusal;
 use refusals::none;

@@ -1,0 +1,20 @@
+use borrow.Author.Needs.{needs}
+use Rattle.compiler.proofs.CompileReturns.{reply-room, reply-accepts}
+use Rattle.compiler.proofs.reply.Statement.{statement}
+use Rattle.compiler.proofs.reply.Tie as tie
+
+returns : tie.Need-returns
+returns c = search (needs, reply-room)
+
+returns-2 : tie.Need-returns-2
+returns-2 c = search (needs, reply-accepts)
+
+pub reply-spec : {M : Type 1} → statement M
+reply-spec =
+    tie.close
+    (tie.spec
+    (λ c κs. search needs)
+    (λ c κs. search needs)
+    returns
+    (λ c κs. search needs)
+    returns-2)

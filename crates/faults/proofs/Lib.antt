@@ -1,0 +1,2 @@
+pub mod FirstField
+pub mod RowFaults

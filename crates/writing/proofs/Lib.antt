@@ -1,0 +1,3 @@
+pub mod Parts
+pub mod Rows
+pub mod Tables
