@@ -1,6 +1,6 @@
 -- The ways out of `climb` and of what it calls, and what a node that is not refused finds: room (push-clear, column-clear)
 -- or operands (down-clear, join-clear).
-use Prim.Native.Nat.{ℕ, _+_, _-_, _≤_, _<_}
+use Prim.Native.Nat.{ℕ, suc, _+_, _-_, _≤_, _<_}
 use mathlib.Core.Path.{_≡_, refl, sym, _∙_}
 use mathlib.Core.Bool.{Bool, true, false, cond}
 use lib.Dec.{ltb}
@@ -13,6 +13,7 @@ use Rattle.nodes.specs.declared.Node.{Node}
 use Rattle.nodes.specs.declared.Node.the-variants.{Constant, Negate, Turn, Meet, Join, Column, Foreign}
 use Rattle.nodes.specs.declared.Profile.{Profile}
 use Rattle.nodes.specs.Meaning.{to, stop, climbPush, climbDown, climb}
+use Rattle.nodes.specs.Inside.{taken, Fits}
 
 -- a test that is passed, since what it refuses has a number
 passed : (number : ℕ) (c : Climbed) (t : Bool) → 0 < number → cond t c (stop number) .fault ≡ 0 → t ≡ true
@@ -70,49 +71,44 @@ climb-room profile n Join height l =
 climb-room profile n Foreign height l = omega arith
 
 -- the faults
-module _ (limit height : ℕ) where
-  pub push-fits : height < limit → 0 ≡ climbPush limit height .fault
-  push-fits l = rw (lt-ltb height limit l)
+tested : (number : ℕ) (c : Climbed) (t : Bool) → c .fault ≡ 0 → cond t 0 number ≡ cond t c (stop number) .fault
+tested number c true e = sym e
+tested number c false e = refl
 
-  pub push-full : limit ≤ height → DEEP ≡ climbPush limit height .fault
-  push-full l = rw (le-ltb height limit l)
+module _ (limit height : ℕ) {f : ℕ} where
+  push-fault : f ≡ cond (ltb height limit) 0 DEEP → f ≡ climbPush limit height .fault
+  push-fault g = g ∙ tested DEEP (to (height + 1)) (ltb height limit) refl
 
-  pub down-fits : limit < height → 0 ≡ climbDown limit height .fault
-  down-fits l = rw (lt-ltb limit height l)
-
-  pub down-under : height ≤ limit → UNDER ≡ climbDown limit height .fault
-  down-under l = rw (le-ltb limit height l)
+  down-fault : f ≡ cond (ltb limit height) 0 UNDER → f ≡ climbDown limit height .fault
+  down-fault g = g ∙ tested UNDER (to (height - limit)) (ltb limit height) refl
 
 module _ (profile : Profile) (n height : ℕ) {node : Node} where
   module _ {f : ℕ} where
     pub fault-constant :
-        {a : Answer} →
-        node ≡ Constant a →
-        f ≡ climbPush (profile .places) height .fault →
-        f ≡ climb profile n node height .fault
+        {a : Answer} → node ≡ Constant a → f ≡ cond (ltb height (profile .places)) 0 DEEP → f ≡ climb profile n node height .fault
     unfolding climb
-    fault-constant e g = rw e g
+    fault-constant e g = rw e (push-fault (profile .places) height g)
 
     pub fault-column :
-        {k : ℕ} → node ≡ Column k → k < n → f ≡ climbPush (profile .places) height .fault → f ≡ climb profile n node height .fault
+        {k : ℕ} → node ≡ Column k → k < n → f ≡ cond (ltb height (profile .places)) 0 DEEP → f ≡ climb profile n node height .fault
     unfolding climb
-    fault-column {k} e l g = rw (e, lt-ltb k n l) g
+    fault-column {k} e l g = rw (e, lt-ltb k n l) (push-fault (profile .places) height g)
 
-    pub fault-negate : node ≡ Negate → f ≡ climbDown 0 height .fault → f ≡ climb profile n node height .fault
+    pub fault-negate : node ≡ Negate → f ≡ cond (ltb 0 height) 0 UNDER → f ≡ climb profile n node height .fault
     unfolding climb
-    fault-negate e g = rw e g
+    fault-negate e g = rw e (down-fault 0 height g)
 
-    pub fault-turn : node ≡ Turn → f ≡ climbDown 0 height .fault → f ≡ climb profile n node height .fault
+    pub fault-turn : node ≡ Turn → f ≡ cond (ltb 0 height) 0 UNDER → f ≡ climb profile n node height .fault
     unfolding climb
-    fault-turn e g = rw e g
+    fault-turn e g = rw e (down-fault 0 height g)
 
-    pub fault-meet : node ≡ Meet → f ≡ climbDown 1 height .fault → f ≡ climb profile n node height .fault
+    pub fault-meet : node ≡ Meet → f ≡ cond (ltb 1 height) 0 UNDER → f ≡ climb profile n node height .fault
     unfolding climb
-    fault-meet e g = rw e g
+    fault-meet e g = rw e (down-fault 1 height g)
 
-    pub fault-join : node ≡ Join → profile .joins ≡ true → f ≡ climbDown 1 height .fault → f ≡ climb profile n node height .fault
+    pub fault-join : node ≡ Join → profile .joins ≡ true → f ≡ cond (ltb 1 height) 0 UNDER → f ≡ climb profile n node height .fault
     unfolding climb
-    fault-join e j g = rw (e, j) g
+    fault-join e j g = rw (e, j) (down-fault 1 height g)
 
   pub fault-no-column : {k : ℕ} → node ≡ Column k → n ≤ k → COLUMN ≡ climb profile n node height .fault
   unfolding climb
@@ -157,54 +153,52 @@ module _ (profile : Profile) (n height : ℕ) where
   climb-stopped Join x = stopped-or NODE (climbDown 1 height) (profile .joins) (stopped UNDER (height - 1) (ltb 1 height)) x
   climb-stopped Foreign x = refl
 
+  down :
+      (limit fewer : ℕ) {c : Climbed} →
+      height ≤ limit →
+      fewer < height →
+      c ≡ climbDown fewer height →
+      (suc fewer ≤ height) × (height + 1 - suc fewer ≤ limit) × (to (height + 1 - suc fewer) ≡ c)
+  down limit fewer q l e =
+      let same : height + 1 - suc fewer ≡ height - fewer = omega arith in
+      (omega arith, omega arith, rw (e, same, lt-ltb fewer height l))
+
+  -- a node that is not refused finds its operands, and leaves one answer in place of them, within any limit of both counts
+  climb-taken :
+      (limit : ℕ) →
+      profile .places ≤ limit →
+      height ≤ limit →
+      (node : Node) →
+      climb profile n node height .fault ≡ 0 →
+      (taken node ≤ height) × (height + 1 - taken node ≤ limit) × (to (height + 1 - taken node) ≡ climb profile n node height)
+  unfolding climb taken
+  climb-taken limit p q (Constant a) e =
+      let l : height < profile .places = push-clear (profile .places) height e in
+      let same : height + 1 - 0 ≡ height + 1 = omega arith in
+      (omega arith, omega arith, rw (same, lt-ltb height (profile .places) l))
+  climb-taken limit p q (Column k) e =
+      let l = column-clear profile n height k e in
+      let room : height < profile .places = l .1 in
+      let same : height + 1 - 0 ≡ height + 1 = omega arith in
+      (omega arith, omega arith, rw (same, lt-ltb k n (l .0), lt-ltb height (profile .places) room))
+  climb-taken limit p q Negate e = down limit 0 q (down-clear 0 height e) refl
+  climb-taken limit p q Turn e = down limit 0 q (down-clear 0 height e) refl
+  climb-taken limit p q Meet e = down limit 1 q (down-clear 1 height e) refl
+  climb-taken limit p q Join e = let j = join-clear profile n height e in down limit 1 q (j .1) (rw (j .0))
+  climb-taken limit p q Foreign e = absurd (omega (arith, e))
+
   module _ (node : Node) {f : ℕ} (e : f ≡ climb profile n node height .fault) where
     pub climb-faulty : (f ≡ 0 → ⊥) → stop f ≡ climb profile n node height
     climb-faulty x = rw e (climb-stopped node (λ z. x (e ∙ z)))
 
     module _ (z : f ≡ 0) where
-      clear : climb profile n node height .fault ≡ 0
-      clear = sym e ∙ z
+      not-refused : climb profile n node height .fault ≡ 0
+      not-refused = sym e ∙ z
 
-      pub room-constant : {a : Answer} → node ≡ Constant a → height < profile .places
-      unfolding climb
-      room-constant i = push-clear (profile .places) height (rw i at clear)
+      pub climb-fits : profile .places < 18446744073709551616 → height < 18446744073709551616 → Fits node height
+      climb-fits p q =
+          let b = climb-taken 18446744073709551615 (omega arith) (omega arith) node not-refused in
+          record { enough = b .0; word = omega (arith, b .1) }
 
-      pub room-column : {k : ℕ} → node ≡ Column k → height < profile .places
-      room-column {k} i = column-clear profile n height k (rw i at clear) .1
-
-      pub room-meet : node ≡ Meet → 1 < height
-      unfolding climb
-      room-meet i = down-clear 1 height (rw i at clear)
-
-      pub room-join : node ≡ Join → 1 < height
-      room-join i = join-clear profile n height (rw i at clear) .1
-
-      module _ {r : Climbed} where
-        pub to-constant : {a : Answer} → node ≡ Constant a → r ≡ to (height + 1) → r ≡ climb profile n node height
-        unfolding climb
-        to-constant i g = rw (i, lt-ltb height (profile .places) (room-constant i)) g
-
-        pub to-column : {k : ℕ} → node ≡ Column k → r ≡ to (height + 1) → r ≡ climb profile n node height
-        unfolding climb
-        to-column {k} i g =
-            let l = column-clear profile n height k (rw i at clear) in
-            rw (i, lt-ltb k n (l .0), lt-ltb height (profile .places) (l .1)) g
-
-        pub to-meet : node ≡ Meet → r ≡ to (height - 1) → r ≡ climb profile n node height
-        unfolding climb
-        to-meet i g = rw (i, lt-ltb 1 height (room-meet i)) g
-
-        pub to-join : node ≡ Join → r ≡ to (height - 1) → r ≡ climb profile n node height
-        unfolding climb
-        to-join i g = let l = join-clear profile n height (rw i at clear) in rw (i, l .0, lt-ltb 1 height (l .1)) g
-
-        -- negate and turn
-        pub to-same : climb profile n node height ≡ climbDown 0 height → r ≡ to height → r ≡ climb profile n node height
-        to-same i g =
-            let l : 0 < height = down-clear 0 height (rw i at clear) in
-            let same : height - 0 ≡ height = omega arith in
-            rw (i, lt-ltb 0 height l, same) g
-
-      pub never-foreign : node ≡ Foreign → ⊥
-      unfolding climb
-      never-foreign i = let y : _≡_ {A = ℕ} 9 0 = rw i at clear in omega arith
+      pub climb-behind : {r : ℕ} → r ≡ height + 1 - taken node → record { height = r; fault = f } ≡ climb profile n node height
+      climb-behind g = rw (g, z) (climb-taken (profile .places + height) (omega arith) (omega arith) node not-refused .2)

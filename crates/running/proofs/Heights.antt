@@ -1,11 +1,11 @@
 -- What is refused, and where, follows from the stack's height alone (run-heights, evaluate-heights): so it does not depend on
 -- the situation's answers, only on its length (evaluate-alike).
-use Prim.Native.Nat.{ℕ, suc}
+use Prim.Native.Nat.{ℕ, suc, _≤_}
 use mathlib.Core.Path.{_≡_, refl, sym, _∙_}
 use mathlib.Core.Bool.{Bool, true, false, cond}
 use mathlib.Core.List.{List, [], _∷_}
 use lib.Dec.{eqb}
-use lib.ListN.{length, getD, length-drop, length-map}
+use lib.ListN.{length, getD, replicate, length-drop, length-map}
 use borrow.Author.Tests.{lt-ltb, eq-eqb, eqb-true}
 use native.Mathlib.Omega.{arith}
 use Rattle.refusals.specs.Meaning.{none, refused, after, END}
@@ -13,6 +13,7 @@ use Rattle.answers.specs.Meaning.{fromNumber, succeed}
 use Rattle.answers.specs.declared.Answer.{Answer}
 use Rattle.answers.specs.declared.Answer.the-variants.{Silent}
 use Rattle.situations.specs.Meaning.{fault, answersOf}
+use Rattle.situations.proofs.Silent.{silent-columns}
 use Rattle.nodes.specs.declared.Node.{Node}
 use Rattle.nodes.specs.declared.Node.the-variants.{Constant, Negate, Turn, Meet, Join, Column, Foreign}
 use Rattle.nodes.specs.declared.Profile.{Profile}
@@ -91,3 +92,11 @@ pub evaluate-alike :
     evaluateOf nodes s .refusal ≡ evaluateOf nodes t .refusal
 evaluate-alike nodes s t a b e =
     evaluate-heights nodes s ∙ (rw (eq-eqb (fault s .number) 0 a, eq-eqb (fault t .number) 0 b, e)) ∙ sym (evaluate-heights nodes t)
+
+-- an array that is not refused at the situation that is silent everywhere has 1 to 6 columns
+pub evaluate-columns : (nodes : List ℕ) (n : ℕ) → evaluateOf nodes (replicate n 0) .refusal .number ≡ 0 → (1 ≤ n) × (n ≤ 6)
+evaluate-columns nodes n h = silent-columns n (go (eqb (fault (replicate n 0) .number) 0) refl)
+  where
+    go : (t : Bool) → eqb (fault (replicate n 0) .number) 0 ≡ t → fault (replicate n 0) .number ≡ 0
+    go true q = eqb-true (fault (replicate n 0) .number) 0 q
+    go false q = rw (evaluate-heights nodes (replicate n 0), q) at h

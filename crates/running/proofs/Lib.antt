@@ -3,3 +3,4 @@ pub mod Success
 pub mod Parts
 pub mod Leads
 pub mod Places
+pub mod Turning

@@ -10,7 +10,7 @@ use Rattle.nodes.proofs.Node.{the-type}
 use borrow.Author.Needs.{needs}
 use Rattle.nodes.proofs.past.Statement.{statement}
 use Rattle.nodes.proofs.past.Tie as tie
-use Rattle.nodes.proofs.Turning.{past-column}
+use Rattle.nodes.proofs.Passing.{past-column}
 
 -- the other arm tells which of the variants the node is
 other : (node : Node) (nodes : List ℕ) (from : ℕ) → OneOf (0 ∷ 1 ∷ 2 ∷ 3 ∷ 4 ∷ 6 ∷ []) (tagOf the-type node) → from ≡ past node nodes from

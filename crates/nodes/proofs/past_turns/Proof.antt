@@ -2,7 +2,7 @@ use borrow.Author.Needs.{needs}
 use Prim.Native.Nat.{_-_}
 use lib.ListN.{length}
 use Rattle.nodes.specs.Inside.{Passed}
-use Rattle.nodes.proofs.Turning.{passed-none, passed-more, passed-other, passed-all}
+use Rattle.nodes.proofs.Passing.{passed-none, passed-more, passed-other, passed-all}
 use Rattle.nodes.proofs.past_turns.Statement.{statement}
 use Rattle.nodes.proofs.past_turns.Tie as tie
 

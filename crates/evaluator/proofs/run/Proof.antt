@@ -1,17 +1,18 @@
 use Prim.Native.Nat.{_-_}
 use lib.ListN.{length}
 use Rattle.situations.specs.Meaning.{answersOf}
-use Rattle.nodes.specs.Inside.{Running}
-use Rattle.nodes.proofs.Evaluation.{running-none, running-ready, running-stopped, running-more, running-all, clear-made, next-ahead, next-less}
+use Rattle.evaluator.specs.Inside.{Running}
+use Rattle.evaluator.proofs.Evaluation.{running-none, running-small, clear-within, running-stopped, running-more, running-all}
+use Rattle.running.proofs.Turning.{next-ahead, next-less}
 use borrow.Author.Needs.{needs}
-use Rattle.nodes.proofs.run.Statement.{statement}
-use Rattle.nodes.proofs.run.Tie as tie
+use Rattle.evaluator.proofs.run.Statement.{statement}
+use Rattle.evaluator.proofs.run.Tie as tie
 
 abbrev Inv-loop : tie.InvT-loop
-Inv-loop nodes situation columns m₀ i₀ m i = Running nodes (answersOf situation) m i
+Inv-loop nodes situation columns stack₀ height₀ i₀ stack height i = Running nodes (answersOf situation) stack height i
 
 abbrev μ-loop : tie.MeasureT-loop
-μ-loop nodes situation columns m₀ i₀ m i = length nodes - i
+μ-loop nodes situation columns stack₀ height₀ i₀ stack height i = length nodes - i
 
 loop-holds : tie.Need-loop-holds Inv-loop μ-loop
 loop-holds c = running-none _ _
@@ -23,7 +24,7 @@ sub-act : tie.Need-sub-act Inv-loop μ-loop
 sub-act c = search (needs, next-ahead)
 
 act-requires : tie.Need-act-requires Inv-loop μ-loop
-act-requires c κs = (search (needs, running-ready), search needs, search (needs, clear-made))
+act-requires c κs = (search (needs, running-small), search (needs, clear-within))
 
 loop-less : tie.Need-loop-less Inv-loop μ-loop
 loop-less c = search (needs, next-less)

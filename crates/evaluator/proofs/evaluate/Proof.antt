@@ -1,7 +1,7 @@
-use Rattle.nodes.proofs.Evaluation.{small-checked, evaluate-fault, evaluate-run}
+use Rattle.evaluator.proofs.Evaluation.{small-checked, evaluate-fault, evaluate-run}
 use borrow.Author.Needs.{needs}
-use Rattle.nodes.proofs.evaluate.Statement.{statement}
-use Rattle.nodes.proofs.evaluate.Tie as tie
+use Rattle.evaluator.proofs.evaluate.Statement.{statement}
+use Rattle.evaluator.proofs.evaluate.Tie as tie
 
 returns : tie.Need-returns
 returns c = search (needs, evaluate-fault)

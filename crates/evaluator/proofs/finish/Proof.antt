@@ -1,7 +1,7 @@
-use Rattle.nodes.proofs.Evaluation.{finish-one, finish-not}
+use Rattle.evaluator.proofs.Evaluation.{finish-one, finish-not}
 use borrow.Author.Needs.{needs}
-use Rattle.nodes.proofs.finish.Statement.{statement}
-use Rattle.nodes.proofs.finish.Tie as tie
+use Rattle.evaluator.proofs.finish.Statement.{statement}
+use Rattle.evaluator.proofs.finish.Tie as tie
 
 returns : tie.Need-returns
 returns c = search (needs, finish-one)

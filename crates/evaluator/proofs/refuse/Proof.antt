@@ -1,7 +1,6 @@
-use mathlib.Core.Path.{ap}
 use borrow.Author.Needs.{needs}
-use Rattle.nodes.proofs.refuse.Statement.{statement}
-use Rattle.nodes.proofs.refuse.Tie as tie
+use Rattle.evaluator.proofs.refuse.Statement.{statement}
+use Rattle.evaluator.proofs.refuse.Tie as tie
 
 returns : tie.Need-returns
 returns c = rw (c .refused .ensures)

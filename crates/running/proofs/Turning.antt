@@ -1,24 +1,23 @@
 -- Turns that stand one after another are done at once (run-turns), as both machines do it behind a column (run-past).
-use Prim.Native.Nat.{ℕ, zero, suc, _+_, _-_, _*_, _/_, _%_, _≤_, _<_}
+use Prim.Native.Nat.{ℕ, zero, suc, _+_, _-_, _%_, _≤_, _<_}
 use mathlib.Core.Path.{_≡_, refl, sym, _∙_}
 use mathlib.Core.Bool.{Bool, true, false, cond}
 use mathlib.Core.List.{List, [], _∷_}
 use lib.Dec.{eqb}
-use lib.ListN.{length, drop, getD, length-drop, drop-of-length-le}
-use lib.Seq.{drop-cons, drop-drop}
-use borrow.Author.Tests.{lt-ltb, eqb-true, ne-eqb}
-use native.Mathlib.Nat.{pow-suc, add-zero}
-use native.Mathlib.Numerals.{add-one}
+use lib.ListN.{length, drop, getD, length-drop}
+use lib.Seq.{drop-drop}
+use borrow.Author.Tests.{lt-ltb, eqb-true}
+use native.Mathlib.Nat.{add-zero}
 use native.Mathlib.Omega.{arith}
 use Rattle.answers.specs.Meaning.{number, fromNumber, turn}
 use Rattle.answers.specs.declared.Answer.{Answer}
 use Rattle.answers.specs.declared.Answer.the-variants.{Silent}
 use Rattle.answers.proofs.Claims.{from-number, number-from, number-small, turn-number}
 use Rattle.nodes.specs.declared.Node.{Node}
 use Rattle.nodes.specs.declared.Node.the-variants.{Constant, Negate, Turn, Meet, Join, Column, Foreign}
 use Rattle.nodes.specs.declared.Profile.{Profile}
 use Rattle.nodes.specs.Meaning.{climb, act, run, turns, past}
-use Rattle.nodes.specs.Inside.{turnedBy, actTurned, Passed}
+use Rattle.nodes.specs.Inside.{turnedBy, actTurned}
 
 -- turning a number
 pub turnedBy-number : (n d : ℕ) → d ≤ 3 → fromNumber ((d + n) % 4) ≡ turnedBy n (fromNumber d)
@@ -71,29 +70,6 @@ turnedBy-rest n p =
     let small = number-small p in
     rw (number-from p) at (sym (turnedBy-number n (number p) small) ∙ (rw e) ∙ turnedBy-number (n % 4) (number p) small)
 
--- the search
-module _ (nodes : List ℕ) (start : ℕ) where
-  pub passed-none : Passed nodes start start
-  passed-none = record { same = refl }
-
-  pub passed-more : (i : ℕ) → Passed nodes start i → i < length nodes → getD nodes i 0 ≡ 5 → Passed nodes start (i + 1)
-  unfolding turns
-  passed-more i w l b =
-      let e : i + suc (turns (drop (suc i) nodes)) ≡ i + 1 + turns (drop (suc i) nodes) = omega arith in
-      record { same = w .same ∙ (rw (drop-cons nodes i 0 l, b, e, add-one)) }
-
-  pub passed-other : (i : ℕ) → Passed nodes start i → i < length nodes → (getD nodes i 0 ≡ 5 → ⊥) → i ≡ start + turns (drop start nodes)
-  unfolding turns
-  passed-other i w l b = sym (w .same ∙ (rw (drop-cons nodes i 0 l, ne-eqb (getD nodes i 0) 5 b, add-zero i)))
-
-  pub passed-all : (i : ℕ) → Passed nodes start i → length nodes ≤ i → i ≡ start + turns (drop start nodes)
-  unfolding turns
-  passed-all i w l = sym (w .same ∙ (rw (drop-of-length-le nodes {i = i} l, add-zero i)))
-
-  pub past-column : {node : Node} {k r : ℕ} → node ≡ Column k → r ≡ start + turns (drop start nodes) → r ≡ past node nodes start
-  unfolding past
-  past-column n e = rw n e
-
 -- where a run goes on
 module _ (nodes : List ℕ) (start : ℕ) where
   pub past-ahead : (node : Node) → start ≤ past node nodes start
@@ -139,3 +115,11 @@ module _ (nodes : List ℕ) (start : ℕ) where
     run-past Meet = refl
     run-past Join = refl
     run-past Foreign = refl
+
+-- a turn of a machine's loop comes nearer to the end
+module _ (nodes : List ℕ) (i : ℕ) (node : Node) {next : ℕ} (p : next ≡ past node nodes (i + 1)) where
+  pub next-ahead : i + 1 ≤ next
+  next-ahead = rw p (past-ahead nodes (i + 1) node)
+
+  pub next-less : i < length nodes → length nodes - next < length nodes - i
+  next-less l = omega (arith, next-ahead)

@@ -1,15 +1,14 @@
 -- The stack as a number in base 4: putting an answer, and reading the upper one and two.
 use Prim.Native.Nat.{ℕ, zero, suc, _+_, _-_, _*_, _/_, _%_, _^_, _≤_, _<_}
 use mathlib.Core.Path.{_≡_, refl, ap}
-use mathlib.Core.List.{[], _∷_}
+use mathlib.Core.List.{_∷_}
 use lib.ListN.{length}
 use native.Mathlib.Nat.{pow-suc, pow-le-pow-right, zero-lt-suc}
 use native.Mathlib.Omega.{arith}
 use Rattle.answers.specs.Meaning.{number, fromNumber}
 use Rattle.answers.specs.declared.Answer.{Answer}
 use Rattle.answers.proofs.Claims.{number-from, number-small}
-use Rattle.nodes.specs.declared.Machine.{Machine}
-use Rattle.nodes.specs.Inside.{view, stackOf, Ready}
+use Rattle.evaluator.specs.Inside.{view, Ready}
 
 -- what fits into a height
 pub fits-more : (s h k : ℕ) → s < 4 ^ h → k ≤ 3 → s * 4 + k < 4 ^ suc h
@@ -33,12 +32,12 @@ view-put h s a =
     let e : (s * 4 + number a) / 4 ≡ s = omega (arith, number-small a) in
     rw (d, e, number-from a)
 
-view-top : (h s : ℕ) → 0 < h → view h s ≡ fromNumber (s % 4) ∷ view (h - 1) (s / 4)
+pub view-top : (h s : ℕ) → 0 < h → view h s ≡ fromNumber (s % 4) ∷ view (h - 1) (s / 4)
 unfolding view
 view-top zero s p = absurd (omega arith)
 view-top (suc h) s p = let e : suc h - 1 ≡ h = omega arith in rw e
 
-view-two : (h s : ℕ) → 1 < h → view h s ≡ fromNumber (s % 4) ∷ fromNumber (s / 4 % 4) ∷ view (h - 2) (s / 16)
+pub view-two : (h s : ℕ) → 1 < h → view h s ≡ fromNumber (s % 4) ∷ fromNumber (s / 4 % 4) ∷ view (h - 2) (s / 16)
 unfolding view
 view-two zero s p = absurd (omega arith)
 view-two (suc zero) s p = absurd (omega arith)
@@ -50,19 +49,6 @@ unfolding view
 length-view zero s = refl
 length-view (suc h) s = ap suc (length-view h (s / 4))
 
--- the stack opened at its top
-pub stack-top : (m : Machine) → 0 < m .height → stackOf m ≡ fromNumber (m .stack % 4) ∷ view (m .height - 1) (m .stack / 4)
-stack-top m p = view-top (m .height) (m .stack) p
-
-pub stack-two :
-    (m : Machine) →
-    1 < m .height →
-    stackOf m ≡ fromNumber (m .stack % 4) ∷ fromNumber (m .stack / 4 % 4) ∷ view (m .height - 2) (m .stack / 16)
-stack-two m p = view-two (m .height) (m .stack) p
-
-pub length-stack : (m : Machine) → length (stackOf m) ≡ m .height
-length-stack m = length-view (m .height) (m .stack)
-
 -- sixteen digits leave room for more
-pub ready-small : (m : Machine) → Ready m → m .stack < 4294967296
-ready-small m r = omega (arith, r .below, pow-le-pow-right {n = 4} (zero-lt-suc 3) {i = m .height} {j = 16} (r .room))
+pub ready-small : (stack height : ℕ) → Ready stack height → stack < 4294967296
+ready-small stack height r = omega (arith, r .below, pow-le-pow-right {n = 4} (zero-lt-suc 3) {i = height} {j = 16} (r .room))
