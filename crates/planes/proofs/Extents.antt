@@ -1,13 +1,12 @@
 -- How many words and which of their lanes are the situations of 1 to 6 columns.
 use Prim.Native.Nat.{ℕ, zero, suc, _+_, _*_, _^_, _≤_, _<_}
-use mathlib.Core.Path.{_≡_, refl, ap, subst, sym, _∙_}
+use mathlib.Core.Path.{_≡_, refl, _∙_}
 use mathlib.Core.Bool.{true, cond}
 use lib.Dec.{ltb, eqb}
 use borrow.Author.Tests.{eqb-true, lt-ltb}
 use native.Mathlib.Omega.{arith}
-use Rattle.words.specs.Meaning.{bit}
-use Rattle.words.proofs.Bits.{allBelow, tested, ones, bit-ones}
-use Rattle.planes.specs.declared.Extent.{Extent}
+use Rattle.words.specs.Meaning.{bit, ones}
+use Rattle.words.proofs.Bits.{allBelow, tested, bit-ones}
 use Rattle.planes.specs.Inside.{Within}
 
 -- one pass of one word or more

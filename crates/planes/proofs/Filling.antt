@@ -1,29 +1,26 @@
--- Passes put together: the words of one after those of another are the answers at all situations.
-use Prim.Native.Nat.{ℕ, zero, suc, _+_, _-_, _*_, _/_, _%_, _^_, _≤_, _<_}
-use mathlib.Core.Path.{_≡_, refl, ap, subst, sym, _∙_}
+-- One pass more: its words after those of the passes before it.
+use Prim.Native.Nat.{ℕ, _+_, _-_, _*_, _%_, _^_, _≤_, _<_}
+use mathlib.Core.Path.{_≡_, refl, subst, _∙_}
 use mathlib.Core.Logic.{_⊎_, inl, inr, ⊎-elim}
 use mathlib.Core.Bool.{Bool, true, false, cond}
-use mathlib.Core.List.{List, []}
+use mathlib.Core.List.{List}
 use lib.Bits.{bitAnd, and-le-r}
 use lib.Dec.{ltb}
 use lib.ListN.{length, getD, set, replicate, length-replicate, length-set}
 use lib.Seq.{getD-set-same, getD-set-other}
-use borrow.Author.Tests.{le-ltb, ltb-true, ltb-false}
+use borrow.Author.Tests.{ltb-true, ltb-false}
 use native.Mathlib.Nat.{eq-or-lt-of-le}
 use native.Mathlib.Omega.{arith}
 use Rattle.words.specs.Meaning.{bit}
-use Rattle.words.proofs.Bits.{bit-and, bit-none, each-two}
-use Rattle.refusals.specs.Meaning.{none}
+use Rattle.words.proofs.Bits.{bit-and, each-two}
 use Rattle.refusals.specs.declared.Refusal.{Refusal}
 use Rattle.answers.specs.Meaning.{fromNumber}
-use Rattle.answers.specs.declared.Answer.{Answer}
 use Rattle.answers.specs.declared.Answer.the-variants.{Silent}
 use Rattle.situations.proofs.Columns.{zeros-at}
-use Rattle.situations.proofs.Weights.{power-some}
-use Rattle.nodes.specs.Meaning.{full, heights, run}
 use Rattle.planes.specs.declared.Extent.{Extent}
 use Rattle.planes.specs.Meaning.{answerAt}
-use Rattle.planes.specs.Inside.{pair, held, laneAt, Ran, Within, Stored, Filled, Filling, Passed, Answered}
+use Rattle.lanes.specs.Meaning.{pair}
+use Rattle.planes.specs.Inside.{Ran, Within, Stored, Filled, Passed}
 
 -- two cases
 pub below-or-not : (a b : ℕ) → (a < b) ⊎ (b ≤ a)
@@ -34,17 +31,17 @@ below-or-not a b = go (ltb a b) refl
     go false e = inr (ltb-false a b e)
 
 -- words written
-pub stored-none : (words : List ℕ) (lanes start : ℕ) (old : List ℕ) → Stored words lanes 0 start old old
-stored-none words lanes start old = record { size = refl; written = λ k l. absurd (omega (arith, l)); kept = λ j h. refl }
+pub stored-none : (words : List ℕ) (source lanes start : ℕ) (old : List ℕ) → Stored words source lanes 0 start old old
+stored-none words source lanes start old = record { size = refl; written = λ k l. absurd (omega (arith, l)); kept = λ j h. refl }
 
 pub stored-more :
-    {words : List ℕ} (lanes i count start : ℕ) {old new : List ℕ} →
-    Stored words lanes i start old new →
+    {words : List ℕ} (source lanes i count start : ℕ) {old new : List ℕ} →
+    Stored words source lanes i start old new →
     i < count →
     start + count ≤ length old →
-    Stored words lanes (i + 1) start old (set new (start + i) (bitAnd (getD words i 0) lanes))
-stored-more {words} lanes i count start {old} {new} s l room =
-    let v : ℕ = bitAnd (getD words i 0) lanes in
+    Stored words source lanes (i + 1) start old (set new (start + i) (bitAnd (getD words (source + i) 0) lanes))
+stored-more {words} source lanes i count start {old} {new} s l room =
+    let v : ℕ = bitAnd (getD words (source + i) 0) lanes in
     let size : length new ≡ length old = s .size in
     record {
       size = length-set new (start + i) v ∙ s .size;
@@ -59,14 +56,14 @@ stored-more {words} lanes i count start {old} {new} s l room =
     }
 
 pub stored-all :
-    {words : List ℕ} (lanes i count start : ℕ) {old new : List ℕ} →
-    Stored words lanes i start old new →
+    {words : List ℕ} (source lanes i count start : ℕ) {old new : List ℕ} →
+    Stored words source lanes i start old new →
     i ≤ count →
     count ≤ i →
-    Stored words lanes count start old new
-stored-all {words} lanes i count start {old} {new} s k l =
+    Stored words source lanes count start old new
+stored-all {words} source lanes i count start {old} {new} s k l =
     let e : i ≡ count = omega arith in
-    subst (λ n. Stored words lanes n start old new) e s
+    subst (λ n. Stored words source lanes n start old new) e s
 
 -- only the lanes of a mask
 masked : (x b k m : ℕ) (t : Bool) → bit x m ≡ cond t 1 0 → pair x (bitAnd b m) (bitAnd k m) ≡ cond t (pair x b k) Silent
@@ -91,15 +88,17 @@ filled-none nodes n =
 
 -- one pass more
 module _
-    (nodes : List ℕ) (n first : ℕ) (e : Extent) {bury keep low high b k : List ℕ} {r : Refusal}
-    (w : Within n e) (inside : first < e .total) (f : Filled nodes n first bury keep) (q : Ran nodes n first low high r) (z : r .number ≡ 0)
-    (s : Stored low (e .lanes) (e .count) first bury b) (t : Stored high (e .lanes) (e .count) first keep k)
+    (nodes : List ℕ) (n first : ℕ) (e : Extent) {bury keep stack b k : List ℕ} {r : Refusal}
+    (w : Within n e) (inside : first < e .total) (f : Filled nodes n first bury keep) (q : Ran nodes n first stack r) (z : r .number ≡ 0)
+    (s : Stored stack 0 (e .lanes) (e .count) first bury b) (t : Stored stack 16 (e .lanes) (e .count) first keep k)
     (fits : first + e .count ≤ e .total) where
-  new-answer : (i x : ℕ) → i < e .count → x < 64 → held b k (first + i) x ≡ answerAt nodes n ((first + i) * 64 + x)
+  new-answer : (i x : ℕ) → i < e .count → x < 64 → pair x (getD b (first + i) 0) (getD k (first + i) 0) ≡ answerAt nodes n ((first + i) * 64 + x)
   new-answer i x l m =
       let most = w .most in
-      rw (s .written i l, t .written i l)
-      (masked x (getD low i 0) (getD high i 0) (e .lanes) (ltb ((first + i) * 64 + x) (4 ^ n))
+      let low : 0 + i ≡ i = omega arith in
+      let high : 16 + i ≡ i + 16 = omega arith in
+      rw (s .written i l, t .written i l, low, high)
+      (masked x (getD stack i 0) (getD stack (i + 16) 0) (e .lanes) (ltb ((first + i) * 64 + x) (4 ^ n))
       (w .lanes (first + i) x (omega (arith, fits, l)) m)
       ∙ (rw (q .answered z i x (omega (arith, l, most)) m)))
 
@@ -128,23 +127,23 @@ module _
         buries = s .size ∙ f .buries;
         keeps = t .size ∙ f .keeps;
         answered = λ i x l m.
-            each-word (λ i. held b k i x ≡ answerAt nodes n (i * 64 + x))
+            each-word (λ i. pair x (getD b i 0) (getD k i 0) ≡ answerAt nodes n (i * 64 + x))
             (λ i h. rw (s .kept i (λ g. absurd (omega (arith, g, h))), t .kept i (λ g. absurd (omega (arith, g, h)))) (f .answered i x h m))
             (λ i h. new-answer i x h m)
             i
             l;
         low = each-word (λ i. getD b i 0 < 18446744073709551616)
             (λ i h. rw (s .kept i (λ g. absurd (omega (arith, g, h)))) (f .low i h))
-            (λ i h. rw (s .written i h) (lanes-small (getD low i 0)));
+            (λ i h. rw (s .written i h) (lanes-small (getD stack (0 + i) 0)));
         high = each-word (λ i. getD k i 0 < 18446744073709551616)
             (λ i h. rw (t .kept i (λ g. absurd (omega (arith, g, h)))) (f .high i h))
-            (λ i h. rw (t .written i h) (lanes-small (getD high i 0)));
+            (λ i h. rw (t .written i h) (lanes-small (getD stack (16 + i) 0)));
         buried = λ i l. s .kept i (λ g. l) ∙ f .buried i (omega (arith, l));
         kept = λ i l. t .kept i (λ g. l) ∙ f .kept i (omega (arith, l));
       }
 
 -- the ways out of `pass`
-module _ (nodes : List ℕ) (n first : ℕ) {bury keep low high : List ℕ} {r : Refusal} (q : Ran nodes n first low high r) where
+module _ (nodes : List ℕ) (n first : ℕ) {bury keep stack : List ℕ} {r : Refusal} (q : Ran nodes n first stack r) where
   pub pass-stored :
       (e : Extent) {b k : List ℕ} →
       r .number ≡ 0 →
@@ -152,66 +151,11 @@ module _ (nodes : List ℕ) (n first : ℕ) {bury keep low high : List ℕ} {r :
       first % 16 ≡ 0 →
       first < e .total →
       Filled nodes n first bury keep →
-      Stored low (e .lanes) (e .count) first bury b →
-      Stored high (e .lanes) (e .count) first keep k →
+      Stored stack 0 (e .lanes) (e .count) first bury b →
+      Stored stack 16 (e .lanes) (e .count) first keep k →
       Passed nodes n first (e .count) b k r
   pass-stored e z w a l f s t =
       record { told = q .told; filled = λ y. filled-more nodes n first e w l f q z s t (w .steps first a l) }
 
   pub pass-refused : (e : Extent) → (r .number ≡ 0 → ⊥) → Passed nodes n first (e .count) bury keep r
   pass-refused e x = record { told = q .told; filled = λ y. absurd (x y) }
-
--- pass after pass
-pub filling-none : (nodes : List ℕ) (n : ℕ) {e : Extent} {bury keep : List ℕ} → Within n e → Filled nodes n 0 bury keep → Filling nodes n e 0 bury keep
-filling-none nodes n w f =
-    record { within = w; filled = f; inside = omega arith; aligned = λ l. refl; fine = λ l. absurd (omega (arith, l)) }
-
-module _ (nodes : List ℕ) (n done : ℕ) {e : Extent} {bury keep : List ℕ} (f : Filling nodes n e done bury keep) where
-  pub filling-aligned : done < e .total → done % 16 ≡ 0
-  filling-aligned = f .aligned
-
-  module _ {r : Refusal} {b k : List ℕ} (p : Passed nodes n done (e .count) b k r) where
-    pub filling-more : done < e .total → r .number ≡ 0 → Filling nodes n e (done + e .count) b k
-    filling-more l z =
-        let w : Within n e = f .within in
-        record {
-          within = w;
-          filled = p .filled z;
-          inside = w .steps done (f .aligned l) l;
-          aligned = λ h. w .next done (f .aligned l) h;
-          fine = λ h. sym (ap (λ (q : Refusal). q .number) (p .told)) ∙ z;
-        }
-
-    pub filling-refused : (r .number ≡ 0 → ⊥) → Answered nodes n b k r
-    filling-refused x = record { told = λ y. p .told; fine = λ z. absurd (x z); whole = λ z. absurd (x z) }
-
-  filled-all : e .total ≤ done → Filled nodes n 64 bury keep
-  filled-all l =
-      let inside = f .inside in
-      let beyond = f .within .beyond in
-      let all = f .within .all in
-      let g : Filled nodes n done bury keep = f .filled in
-      record {
-        buries = g .buries;
-        keeps = g .keeps;
-        answered = λ i x o m.
-            ⊎-elim
-            (λ h. g .answered i x h m)
-            (λ h.
-            rw (g .buried i h, g .kept i h, bit-none x m, le-ltb (i * 64 + x) (4 ^ n) (omega (arith, h, l, beyond))))
-            (below-or-not i done);
-        low = λ i o. ⊎-elim (λ h. g .low i h) (λ h. rw (g .buried i h) (omega arith)) (below-or-not i done);
-        high = λ i o. ⊎-elim (λ h. g .high i h) (λ h. rw (g .kept i h) (omega arith)) (below-or-not i done);
-        buried = λ i o. g .buried i (omega (arith, o, inside, all));
-        kept = λ i o. g .kept i (omega (arith, o, inside, all));
-      }
-
-  pub filling-all : {r : Refusal} → e .total ≤ done → r ≡ none → Answered nodes n bury keep r
-  filling-all l z =
-      let inside = f .inside in
-      let beyond = f .within .beyond in
-      record {
-        told = λ x. absurd (x (ap (λ (q : Refusal). q .number) z));
-        fine = λ y. f .fine (omega (arith, l, beyond, power-some n));
-        whole = λ y. filled-all l;
-      }

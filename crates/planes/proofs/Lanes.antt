@@ -17,11 +17,10 @@ use Rattle.answers.specs.Meaning.{number, fromNumber}
 use Rattle.answers.specs.declared.Answer.{Answer}
 use Rattle.answers.specs.declared.Answer.the-variants.{Silent}
 use Rattle.answers.proofs.Every.{each}
-use Rattle.situations.specs.Meaning.{situationAt, fault}
+use Rattle.situations.specs.Meaning.{situationAt}
 use Rattle.situations.proofs.Weights.{power-small}
-use Rattle.situations.proofs.Silent.{silent-columns}
 use Rattle.nodes.specs.Meaning.{full, run, evaluateOf}
-use Rattle.running.proofs.Heights.{evaluate-heights}
+use Rattle.running.proofs.Heights.{evaluate-columns}
 use Rattle.planes.specs.declared.Planes.{Planes}
 use Rattle.planes.specs.Meaning.{lane, answerAt, buryAt, keepAt, planesOf}
 use Rattle.planes.proofs.Filling.{below-or-not}
@@ -66,14 +65,6 @@ module _ (nodes : List ℕ) (n : ℕ) where
 
   lane-beyond : (w : ℕ) → 4096 ≤ w → lane (wordsFrom (buryAt nodes n) 64 0) (wordsFrom (keepAt nodes n) 64 0) w ≡ Silent
   lane-beyond w l = rw (word-no-bit (buryAt nodes n) bury-bit w l, word-no-bit (keepAt nodes n) keep-bit w l)
-
-  -- an array that is not refused has 1 to 6 columns
-  pub planes-columns : evaluateOf nodes (replicate n 0) .refusal .number ≡ 0 → (1 ≤ n) × (n ≤ 6)
-  planes-columns h = silent-columns n (go (eqb (fault (replicate n 0) .number) 0) refl)
-    where
-      go : (t : Bool) → eqb (fault (replicate n 0) .number) 0 ≡ t → fault (replicate n 0) .number ≡ 0
-      go true q = eqb-true (fault (replicate n 0) .number) 0 q
-      go false q = rw (evaluate-heights nodes (replicate n 0), q) at h
 
   module _ {p : Planes} (e : p ≡ planesOf nodes n) where
     -- the array is refused as the evaluator refuses it, or not at all
@@ -122,7 +113,7 @@ module _ (nodes : List ℕ) (n : ℕ) where
 
       pub planes-lane : (w : ℕ) → w < 4 ^ n → lane (p .bury) (p .keep) w ≡ run full (situationAt n w) 0 [] nodes .answer
       planes-lane w l =
-          rw (planes-are, lane-answer w (omega (arith, l, power-small n (planes-columns h .1))), lt-ltb w (4 ^ n) l)
+          rw (planes-are, lane-answer w (omega (arith, l, power-small n (evaluate-columns nodes n h .1))), lt-ltb w (4 ^ n) l)
 
       pub planes-beyond : (w : ℕ) → 4 ^ n ≤ w → lane (p .bury) (p .keep) w ≡ Silent
       planes-beyond w l =

@@ -1,9 +1,7 @@
-pub mod Pairs
-pub mod Placing
-pub mod Columns
 pub mod Acting
 pub mod NodeLoop
 pub mod Extents
 pub mod Filling
+pub mod Passes
 pub mod Words
 pub mod Lanes

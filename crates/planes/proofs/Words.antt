@@ -1,27 +1,24 @@
 -- The words that are filled are those of the meaning, and so are the ways out of `fill`.
-use Prim.Native.Nat.{ℕ, _+_, _*_, _/_, _%_, _^_, _≤_, _<_}
-use mathlib.Core.Path.{_≡_, refl, ap, sym, _∙_}
+use Prim.Native.Nat.{ℕ, _+_, _*_, _/_, _%_, _<_}
+use mathlib.Core.Path.{_≡_, sym, _∙_}
 use mathlib.Core.List.{List}
-use lib.ListN.{length, getD, replicate, length-replicate}
+use lib.ListN.{length, getD, replicate}
 use lib.Seq.{ext-getD}
 use borrow.Author.Tests.{eq-eqb, ne-eqb}
 use native.Mathlib.Nat.{zero-add}
 use native.Mathlib.Omega.{arith}
-use Rattle.words.specs.Meaning.{bit, packed, wordsFrom}
+use Rattle.words.specs.Meaning.{bit, wordsFrom}
 use Rattle.words.proofs.Bits.{bit-small}
 use Rattle.words.proofs.Packed.{packed-same, packed-bits, length-wordsFrom, wordsFrom-at}
-use Rattle.refusals.specs.Meaning.{none, refused, SITUATION}
 use Rattle.refusals.specs.declared.Refusal.{Refusal}
-use Rattle.answers.specs.Meaning.{number, fromNumber}
+use Rattle.answers.specs.Meaning.{number}
 use Rattle.answers.specs.declared.Answer.{Answer}
 use Rattle.answers.proofs.Claims.{from-number}
-use Rattle.situations.specs.Meaning.{fault}
-use Rattle.situations.proofs.Silent.{silent-sound, silent-short, silent-long}
-use Rattle.nodes.specs.Meaning.{full, heights, evaluateOf}
-use Rattle.running.proofs.Heights.{evaluate-heights}
+use Rattle.nodes.specs.Meaning.{evaluateOf}
+use Rattle.lanes.specs.Meaning.{pair}
 use Rattle.planes.specs.declared.Planes.{Planes}
-use Rattle.planes.specs.Meaning.{answerAt, buryAt, keepAt, planesOf}
-use Rattle.planes.specs.Inside.{pair, held, Filled, Answered}
+use Rattle.planes.specs.Meaning.{buryAt, keepAt, planesOf}
+use Rattle.planes.specs.Inside.{Filled, Answered}
 
 -- the two bits of an answer's number
 pair-number : (x b k : ℕ) → number (pair x b k) ≡ bit x b + 2 * bit x k
@@ -67,43 +64,19 @@ module _ (nodes : List ℕ) (n : ℕ) where
         words-same (keepAt nodes n) keep (f .keeps) (f .high)
         (λ k x l m. high-bit x (getD bury k 0) (getD keep k 0) (f .answered k x l m))
 
-  -- what is refused is refused as at the situation that is silent everywhere
-  pub silent-heights : 1 ≤ n → n ≤ 6 → evaluateOf nodes (replicate n 0) .refusal ≡ heights full n 0 0 nodes
-  silent-heights some most = evaluate-heights nodes (replicate n 0) ∙ (rw (silent-sound n some most, length-replicate {A = ℕ} n 0))
-
-  outside-heights : fault (replicate n 0) ≡ refused SITUATION n → evaluateOf nodes (replicate n 0) .refusal ≡ refused SITUATION n
-  outside-heights e = evaluate-heights nodes (replicate n 0) ∙ (rw e)
-
   -- the ways out of `fill`
-  module _ {p : Planes} {r : Refusal} (g : p ≡ record { refusal = r; bury = replicate 64 0; keep = replicate 64 0 }) where
-    outside-planes : fault (replicate n 0) ≡ refused SITUATION n → r ≡ refused SITUATION n → p ≡ planesOf nodes n
+  module _ {bury keep : List ℕ} {r : Refusal} (a : Answered nodes n bury keep r) where
+    pub fill-refused :
+        {p : Planes} → p ≡ record { refusal = r; bury = replicate 64 0; keep = replicate 64 0 } → (r .number ≡ 0 → ⊥) → p ≡ planesOf nodes n
     unfolding planesOf
-    outside-planes e h = g ∙ (rw (outside-heights e, h))
+    fill-refused g x = g ∙ (rw (← a .told x, ne-eqb (r .number) 0 x))
 
-    pub fill-under : n < 1 → r ≡ refused SITUATION n → p ≡ planesOf nodes n
-    fill-under l h = outside-planes (silent-short n l) h
-
-    pub fill-over : 6 < n → r ≡ refused SITUATION n → p ≡ planesOf nodes n
-    fill-over l h = outside-planes (silent-long n l) h
-
-    pub fill-refused : 1 ≤ n → n ≤ 6 → {bury keep : List ℕ} → Answered nodes n bury keep r → (r .number ≡ 0 → ⊥) → p ≡ planesOf nodes n
+    pub fill-whole : r .number ≡ 0 → record { refusal = r; bury = bury; keep = keep } ≡ planesOf nodes n
     unfolding planesOf
-    fill-refused some most a x = g ∙ (rw (silent-heights some most, ← a .told x, ne-eqb (r .number) 0 x))
-
-  pub fill-whole :
-      {bury keep : List ℕ} {r q : Refusal} →
-      1 ≤ n →
-      n ≤ 6 →
-      Answered nodes n bury keep r →
-      r .number ≡ 0 →
-      q ≡ none →
-      record { refusal = q; bury = bury; keep = keep } ≡ planesOf nodes n
-  unfolding planesOf
-  fill-whole some most a z e =
-      rw (
-        silent-heights some most,
-        eq-eqb (heights full n 0 0 nodes .number) 0 (a .fine z),
-        e,
-        ← bury-same (a .whole z),
-        ← keep-same (a .whole z),
-      )
+    fill-whole z =
+        rw (
+          eq-eqb (evaluateOf nodes (replicate n 0) .refusal .number) 0 (a .fine z),
+          a .clear z,
+          ← bury-same (a .whole z),
+          ← keep-same (a .whole z),
+        )

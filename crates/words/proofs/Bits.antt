@@ -8,7 +8,7 @@ use lib.Bits.{bitAnd, bitOr, bitXor, and-shr, or-shr, xor-shr, and-mod, or-mod, 
 use borrow.Author.Tests.{eqb-true}
 use native.Mathlib.Nat.{mod-lt, zero-lt-suc, eq-or-lt-of-le}
 use native.Mathlib.Omega.{arith}
-use Rattle.words.specs.Meaning.{bit}
+use Rattle.words.specs.Meaning.{bit, ones}
 
 pub bit-and : (x a b : ℕ) → bit x (bitAnd a b) ≡ bitAnd (bit x a) (bit x b)
 bit-and x a b = ap (λ w. w % 2) (and-shr a b x) ∙ and-mod (a / 2 ^ x) (b / 2 ^ x) 1
@@ -67,9 +67,6 @@ tested p (suc n) h i l =
     (eq-or-lt-of-le {n = i} {m = n} (omega arith))
 
 -- the words that are the same in all lanes
-abbrev pub ones : ℕ
-ones = 18446744073709551615
-
 pub bit-ones : (x : ℕ) → x < 64 → bit x ones ≡ 1
 unfolding allBelow
 bit-ones x l = eqb-true (bit x ones) 1 (tested (λ i. eqb (bit i ones) 1) 64 refl x l)

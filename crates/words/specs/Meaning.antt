@@ -6,6 +6,10 @@ use mathlib.Core.List.{List, [], _∷_}
 abbrev pub bit : ℕ → ℕ → ℕ
 bit x w = w / 2 ^ x % 2
 
+-- The word whose 64 bits are all 1.
+abbrev pub ones : ℕ
+ones = 18446744073709551615
+
 -- The word with these bits, so many of them, the lowest first.
 unfoldable pub packed : (ℕ → ℕ) → ℕ → ℕ
 packed f zero = 0

@@ -1,32 +1,13 @@
-use Rattle.planes.proofs.Acting.{clear-turn, clear-negate, clear-meet, clear-join, column-some, column-digit, ready-column, ready-constant}
-use Rattle.planes.proofs.Acting.{act-constant, act-column, act-negate, act-turn, act-meet, act-join, act-foreign}
+use Rattle.planes.proofs.Acting.{column-some, column-digit, act-constant, act-column, act-negate, act-turn, act-meet, act-join, act-foreign}
 use borrow.Author.Needs.{needs}
 use Rattle.planes.proofs.act.Statement.{statement}
 use Rattle.planes.proofs.act.Tie as tie
-
-sub-top : tie.Need-sub-top
-sub-top c = search (needs, clear-turn)
 
 sub-e : tie.Need-sub-e
 sub-e c = search (needs, column-some)
 
 sub-e-2 : tie.Need-sub-e-2
 sub-e-2 c = search (needs, column-digit)
-
-column-requires : tie.Need-column-requires
-column-requires c κs = (search (needs, ready-column), search needs, search needs, search needs)
-
-sub-second : tie.Need-sub-second
-sub-second c = search (needs, clear-meet)
-
-sub-second-2 : tie.Need-sub-second-2
-sub-second-2 c = search (needs, clear-join)
-
-sub-top-2 : tie.Need-sub-top-2
-sub-top-2 c = search (needs, clear-negate)
-
-lay-requires : tie.Need-lay-requires
-lay-requires c κs = search (needs, ready-constant)
 
 returns : tie.Need-returns
 returns c = search (needs, act-turn)
@@ -54,47 +35,30 @@ act-spec =
     tie.close
     (tie.spec
     (λ c. search needs)
-    sub-top
-    (λ c. search needs)
     (λ c κs. search needs)
     (λ c. search needs)
     sub-e
     sub-e-2
-    (λ c. search needs)
-    column-requires
-    (λ c. search needs)
-    sub-second
+    (λ c κs. search needs)
     (λ c. search needs)
     (λ c κs. search needs)
     (λ c. search needs)
-    sub-second-2
+    (λ c κs. search needs)
     (λ c. search needs)
     (λ c κs. search needs)
     (λ c. search needs)
-    sub-top-2
-    (λ c. search needs)
     (λ c κs. search needs)
-    (λ c. search needs)
-    (λ c. search needs)
-    (λ c κs. search needs)
-    lay-requires
-    (λ c. search needs)
     (λ c. search needs)
     (λ c. search needs)
     returns
     (λ c. search needs)
-    (λ c. search needs)
     returns-2
-    (λ c. search needs)
     (λ c. search needs)
     returns-3
     (λ c. search needs)
-    (λ c. search needs)
     returns-4
     (λ c. search needs)
-    (λ c. search needs)
     returns-5
-    (λ c. search needs)
     (λ c. search needs)
     returns-6
     returns-7)

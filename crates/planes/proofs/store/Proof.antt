@@ -6,13 +6,13 @@ use Rattle.planes.proofs.store.Statement.{statement}
 use Rattle.planes.proofs.store.Tie as tie
 
 abbrev Inv-loop : tie.InvT-loop
-Inv-loop words lanes count all₀ at w₀ all w = (w ≤ count) × Stored words lanes w at all₀ all
+Inv-loop words from lanes count all₀ at w₀ all w = (w ≤ count) × Stored words from lanes w at all₀ all
 
 abbrev μ-loop : tie.MeasureT-loop
-μ-loop words lanes count all₀ at w₀ all w = count - w
+μ-loop words from lanes count all₀ at w₀ all w = count - w
 
 loop-holds : tie.Need-loop-holds Inv-loop μ-loop
-loop-holds c = (search needs, stored-none _ _ _ _)
+loop-holds c = (search needs, stored-none _ _ _ _ _)
 
 loop-again : tie.Need-loop-again Inv-loop μ-loop
 loop-again c = (search needs, search (needs, stored-more))
@@ -27,6 +27,7 @@ store-spec =
     Inv-loop
     μ-loop
     loop-holds
+    (λ c. search needs)
     (λ c. search needs)
     (λ c. search needs)
     (λ c. search needs)
