@@ -15,8 +15,8 @@ use Rattle.answers.specs.declared.Answer.the-variants.{Silent}
 use Rattle.answers.proofs.Claims.{number-from, from-number, number-small}
 use Rattle.situations.specs.Meaning.{index, situationAt, raises, Step}
 use Rattle.situations.proofs.Numbers.{situationAt-length, situationAt-index, index-situationAt, index-small}
-use Rattle.growth.specs.Meaning.{fails, firstFrom, answerFails, firstAnswer, columnFails, firstColumn, situationFails, firstSituation}
-use Rattle.growth.proofs.Firsts.{first-passes}
+use Rattle.steps.specs.Meaning.{fails, firstFrom, answerFails, firstAnswer, columnFails, firstColumn, situationFails, firstSituation}
+use Rattle.steps.proofs.Firsts.{first-passes}
 use Rattle.growing.specs.Meaning.{FailingStep, Before, by-situation, by-column, by-answer}
 use Rattle.growing.proofs.Mergers.{StepsGrow}
 

@@ -20,8 +20,9 @@ use Rattle.situations.proofs.Silent.{silent-sound}
 use Rattle.nodes.specs.Meaning.{evaluateOf}
 use Rattle.running.proofs.Heights.{evaluate-alike}
 use Rattle.running.proofs.Success.{evaluate-fine}
+use Rattle.steps.specs.Meaning.{firstColumn, firstAnswer, firstSituation}
 use Rattle.growth.specs.declared.Growth.{Growth}
-use Rattle.growth.specs.Meaning.{answerAt, firstColumn, firstAnswer, firstSituation, without, shown, growthOf}
+use Rattle.growth.specs.Meaning.{answerAt, without, shown, growthOf}
 use Rattle.growing.specs.Meaning.{Grows, FailingStep, Shows}
 use Rattle.growing.proofs.Mergers.{steps-grow, grow-steps}
 use Rattle.growing.proofs.Searches.{none-grows, found-fails, found-first, answer-below}

@@ -1,0 +1,3 @@
+pub mod LaneBits
+pub mod WordSteps
+pub mod FirstSituation
