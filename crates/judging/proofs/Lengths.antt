@@ -17,16 +17,20 @@ use Rattle.situations.specs.Meaning.{situationAt}
 use Rattle.situations.proofs.Numbers.{situationAt-length}
 use Rattle.nodes.specs.Meaning.{evaluateOf}
 use Rattle.tables.specs.declared.TableRead.{TableRead}
-use Rattle.tables.specs.Meaning.{columnsOf, tableOf}
+use Rattle.faults.specs.Meaning.{columnsOf}
+use Rattle.tables.specs.Meaning.{tableOf}
 use Rattle.tables.proofs.Accepted.{read-accepted}
 use Rattle.compiler.specs.declared.Compiled.{Compiled}
-use Rattle.compiler.specs.Meaning.{tableNodes, compileOf}
+use Rattle.formula.specs.Meaning.{tableNodes}
+use Rattle.compiler.specs.Meaning.{compileOf}
 use Rattle.selection.proofs.Replies.{accepted-read, accepted-reply}
+use Rattle.steps.specs.Meaning.{firstSituation}
 use Rattle.growth.specs.declared.Growth.{Growth}
-use Rattle.growth.specs.Meaning.{answerAt, firstSituation, without, shown, growthOf}
+use Rattle.growth.specs.Meaning.{answerAt, without, shown, growthOf}
 use Rattle.text.specs.Meaning.{numberText, refusalLine}
 use Rattle.text.proofs.Decimals.{numberText-below, numberText-length}
-use Rattle.judging.specs.Meaning.{growthYes, growthNo, countLines, answersText, raisedText, growthLine, textOf}
+use Rattle.lines.specs.Meaning.{growthYes, growthNo, countLines, answersText, raisedText, growthLine}
+use Rattle.judging.specs.Meaning.{textOf}
 
 refusalLine-length : (r : Refusal) → length (refusalLine r) ≤ 71
 unfolding refusalLine
@@ -63,21 +67,6 @@ take-front (a ∷ s) (suc room) behind h = ap (λ l. number a ∷ l) (take-front
 
 -- the check shows a situation of at most as many columns as there are
 module _ (nodes : List ℕ) (n : ℕ) where
-  pub growthOf-short : growthOf nodes n .situation .length ≤ n
-  unfolding growthOf
-  growthOf-short =
-      go (eqb (evaluateOf nodes (replicate n 0) .refusal .number) 0)
-      (ltb (firstSituation (answerAt nodes) n) (4 ^ n))
-      (firstSituation (answerAt nodes) n)
-    where
-      go :
-          (b c : Bool) (w : ℕ) →
-          cond b (cond c (shown (answerAt nodes) (situationAt n w)) (without none 1)) (without (evaluateOf nodes (replicate n 0) .refusal) 0)
-          .situation .length ≤ n
-      go true true w = rw situationAt-length (omega arith)
-      go true false w = omega arith
-      go false c w = omega arith
-
   growthOf-told : n ≤ 6 → length (answersText (take (growthOf nodes n .situation .length) (growthOf nodes n .situation .answers))) ≤ 2 * n
   unfolding growthOf answersText
   growthOf-told few =
@@ -112,7 +101,7 @@ module _ (nodes : List ℕ) (n : ℕ) where
       go true told raised h k = omega arith
       go false told raised h k = simp length-append (omega arith)
 
-pub columns-few : (t : List ℕ) (room : ℕ) → compileOf t room .refusal .number ≡ 0 → compileOf t room .columns ≤ 6
+columns-few : (t : List ℕ) (room : ℕ) → compileOf t room .refusal .number ≡ 0 → compileOf t room .columns ≤ 6
 columns-few t room h =
     let read = read-accepted t (accepted-read t room h) in
     let same : compileOf t room .columns ≡ columnsOf t =

@@ -11,14 +11,16 @@ use native.Mathlib.Nat.{zero-add}
 use native.Mathlib.Omega.{arith}
 use Rattle.tables.specs.Meaning.{tableOf}
 use Rattle.compiler.specs.declared.Compiled.{Compiled}
-use Rattle.compiler.specs.Meaning.{tableNodes, compileOf, writtenOf}
+use Rattle.formula.specs.Meaning.{tableNodes}
+use Rattle.compiler.specs.Meaning.{compileOf, writtenOf}
 use Rattle.selection.proofs.Replies.{accepted-nodes, accepted-fits}
 use Rattle.growth.specs.declared.Growth.{Growth}
 use Rattle.growth.specs.Meaning.{growthOf}
 use Rattle.text.specs.Meaning.{Printed, refusalLine}
 use Rattle.text.proofs.Printing.{printed-then}
-use Rattle.judging.specs.Meaning.{countLines, growthLine, textOf}
-use Rattle.judging.proofs.Lengths.{columns-few, growthOf-short, textOf-length}
+use Rattle.lines.specs.Meaning.{countLines, growthLine}
+use Rattle.judging.specs.Meaning.{textOf}
+use Rattle.judging.proofs.Lengths.{textOf-length}
 
 -- the nodes are compiled into a buffer of 4,223 bytes
 module _ (t b : List ℕ) (room : length b ≡ 4223) {q : Compiled} (e : q ≡ compileOf t (length b)) where
@@ -42,13 +44,7 @@ module _ (t b : List ℕ) (room : length b ≡ 4223) {q : Compiled} (e : q ≡ c
     pub nodes-long : (nodes : List ℕ) → length nodes ≡ 4223 → q .nodes ≡ length (take (q .nodes) nodes)
     nodes-long nodes l = sym (length-take-le (q .nodes) nodes (nodes-inside nodes l))
 
-    few-columns : q .columns ≤ 6
-    few-columns = rw e (columns-few t (length b) compiles)
-
     module _ {nodes : List ℕ} (f : nodes ≡ writtenOf t b) {g : Growth} (i : g ≡ growthOf (take (q .nodes) nodes) (q .columns)) where
-      pub growth-short : g .situation .length ≤ 6
-      growth-short = let few = few-columns in let short = growthOf-short (take (q .nodes) nodes) (q .columns) in rw i (omega arith)
-
       growth-is : growthOf (tableNodes (tableOf t)) (q .columns) ≡ g
       growth-is =
           let same : take (q .nodes) nodes ≡ tableNodes (tableOf t) = rw (e, f) (accepted-nodes t b compiles) in

@@ -7,7 +7,11 @@ returns : tie.Need-returns
 returns c = search (needs, short-length, short-written)
 
 returns-2 : tie.Need-returns-2
-returns-2 c = search (needs, whole-length, whole-written)
+returns-2 c =
+    let long = c .before .before .before .before .before .if1 .left in
+    let few = c .before .before .before .before .if2 .taken in
+    let printed = c .before .before .judge-table .ensures in
+    (whole-length _ _ long few printed, whole-written _ _ long few printed)
 
 slice-aggregate-judge-table : tie.Need-slice-aggregate-judge-table
 slice-aggregate-judge-table c = search (needs, judged-long)

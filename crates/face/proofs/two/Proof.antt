@@ -1,6 +1,6 @@
 use borrow.Author.Needs.{needs}
-use Rattle.carmuspeno.proofs.two.Statement.{statement}
-use Rattle.carmuspeno.proofs.two.Tie as tie
+use Rattle.face.proofs.two.Statement.{statement}
+use Rattle.face.proofs.two.Tie as tie
 
 returns : tie.Need-returns
 returns c = rw (c .answer-face .ensures, c .before .two .ensures)

@@ -1,7 +1,7 @@
 use borrow.Author.Needs.{needs}
-use Rattle.judging.proofs.Lines.{raised-printed}
-use Rattle.judging.proofs.put_raised.Statement.{statement}
-use Rattle.judging.proofs.put_raised.Tie as tie
+use Rattle.lines.proofs.Printing.{raised-printed}
+use Rattle.lines.proofs.put_raised.Statement.{statement}
+use Rattle.lines.proofs.put_raised.Tie as tie
 
 returns : tie.Need-returns
 returns c = search (needs, raised-printed)

@@ -1,6 +1,6 @@
 use borrow.Author.Needs.{needs}
-use Rattle.carmuspeno.proofs.one.Statement.{statement}
-use Rattle.carmuspeno.proofs.one.Tie as tie
+use Rattle.face.proofs.one.Statement.{statement}
+use Rattle.face.proofs.one.Tie as tie
 
 returns : tie.Need-returns
 returns c = rw (c .answer-face .ensures, c .before .one .ensures)

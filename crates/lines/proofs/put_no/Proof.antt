@@ -1,10 +1,10 @@
 use borrow.Author.Needs.{needs}
 use Prim.Native.Nat.{_-_}
 use lib.ListN.{length}
-use Rattle.judging.specs.Inside.{Telling}
-use Rattle.judging.proofs.Lines.{telling-start, telling-more, telling-long, telling-done}
-use Rattle.judging.proofs.put_no.Statement.{statement}
-use Rattle.judging.proofs.put_no.Tie as tie
+use Rattle.lines.specs.Inside.{Telling}
+use Rattle.lines.proofs.Printing.{telling-start, telling-more, telling-long, telling-done}
+use Rattle.lines.proofs.put_no.Statement.{statement}
+use Rattle.lines.proofs.put_no.Tie as tie
 
 abbrev Inv-loop : tie.InvT-loop
 Inv-loop text₀ at answers next₀ i₀ text next i = Telling answers text₀ next₀ text next i

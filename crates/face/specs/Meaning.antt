@@ -8,12 +8,12 @@ use Rattle.situations.specs.declared.Merged.{Merged}
 use Rattle.notices.specs.declared.Noticed.{Noticed}
 use Rattle.compiler.specs.declared.Compiled.{Compiled}
 use Rattle.growth.specs.declared.Growth.{Growth}
-use Rattle.carmuspeno.specs.declared.CarmAnswer.{CarmAnswer}
-use Rattle.carmuspeno.specs.declared.CarmCompiled.{CarmCompiled}
-use Rattle.carmuspeno.specs.declared.CarmSituation.{CarmSituation}
-use Rattle.carmuspeno.specs.declared.CarmMerged.{CarmMerged}
-use Rattle.carmuspeno.specs.declared.CarmGrowth.{CarmGrowth}
-use Rattle.carmuspeno.specs.declared.CarmNoticed.{CarmNoticed}
+use Rattle.face.specs.declared.CarmAnswer.{CarmAnswer}
+use Rattle.face.specs.declared.CarmCompiled.{CarmCompiled}
+use Rattle.face.specs.declared.CarmSituation.{CarmSituation}
+use Rattle.face.specs.declared.CarmMerged.{CarmMerged}
+use Rattle.face.specs.declared.CarmGrowth.{CarmGrowth}
+use Rattle.face.specs.declared.CarmNoticed.{CarmNoticed}
 
 -- "Every reply starts with the three numbers of document 01: number (0 is success), place, second."
 abbrev pub answerFace : Reply → CarmAnswer

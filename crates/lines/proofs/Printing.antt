@@ -1,18 +1,21 @@
 -- The lines of a table as they are written, part by part.
-use Prim.Native.Nat.{ℕ, suc, _+_, _≤_, _<_}
+use Prim.Native.Nat.{ℕ, suc, _+_, _≤_, _<_, min}
 use mathlib.Core.Path.{_≡_, refl, ap, sym, _∙_}
+use mathlib.Core.Bool.{Bool, true, false}
 use mathlib.Core.List.{List, [], _∷_, _++_, append-nil, append-assoc}
+use lib.Dec.{ltb}
 use lib.ListN.{length, take, getD}
-use lib.Seq.{length-sets, take-suc, take-all}
-use borrow.Author.Tests.{eq-eqb, ne-eqb}
+use lib.Seq.{length-sets, length-take-le, take-suc, take-all}
+use borrow.Author.Tests.{eq-eqb, ne-eqb, ltb-true, ltb-false}
 use native.Mathlib.Numerals.{add-one}
 use native.Mathlib.Omega.{arith}
 use Rattle.text.specs.Meaning.{Printed, numberText, line}
 use Rattle.text.proofs.Printing.{printed-then}
+use Rattle.situations.specs.declared.Situation.{Situation}
 use Rattle.compiler.specs.declared.Compiled.{Compiled}
 use Rattle.growth.specs.declared.Growth.{Growth}
-use Rattle.judging.specs.Meaning.{columnsWord, rowsWord, nodesWord, growthYes, growthNo, columnWord, toWord, countLines, answersText, raisedText, growthLine}
-use Rattle.judging.specs.Inside.{Telling}
+use Rattle.lines.specs.Meaning.{columnsWord, rowsWord, nodesWord, growthYes, growthNo, columnWord, toWord, countLines, answersText, raisedText, growthLine}
+use Rattle.lines.specs.Inside.{Telling}
 
 pub counts-printed :
     (q : Compiled) {b c d e : List ℕ} {at k m n : ℕ} →
@@ -83,3 +86,30 @@ pub growth-no-printed :
     Printed b at (growthLine g) d m
 unfolding growthLine
 growth-no-printed g h v w = rw (ne-eqb (g .verdict) 1 h) (printed-then v w)
+
+-- a situation by value has six answers at most: so many are shown
+pub six-columns : (n : ℕ) → 6 < n → 6 ≡ min 6 n
+six-columns n l = omega arith
+
+pub all-columns : (n : ℕ) → n ≤ 6 → n ≡ min 6 n
+all-columns n l = omega arith
+
+shown-all : (s : List ℕ) (n : ℕ) → length s ≡ 6 → take (min 6 n) s ≡ take n s
+shown-all s n e = go (ltb 6 n) refl
+  where
+    go : (long : Bool) → ltb 6 n ≡ long → take (min 6 n) s ≡ take n s
+    go true h = let l : 6 < n = ltb-true 6 n h in take-all (min 6 n) s (omega arith) ∙ sym (take-all n s (omega arith))
+    go false h = let l : n ≤ 6 = ltb-false 6 n h in ap (λ k. take k s) (sym (all-columns n l))
+
+module _ (s : Situation) {n : ℕ} (e : length (s .answers) ≡ 6) (m : n ≡ min 6 (s .length)) where
+  pub shown-inside : n ≤ length (s .answers)
+  shown-inside = omega arith
+
+  pub shown-long : n ≡ length (take n (s .answers))
+  shown-long = sym (length-take-le n (s .answers) shown-inside)
+
+  pub shown-printed :
+      {b c : List ℕ} {at k : ℕ} →
+      Printed b at (growthNo ++ answersText (take n (s .answers))) c k →
+      Printed b at (growthNo ++ answersText (take (s .length) (s .answers))) c k
+  shown-printed v = rw (m, shown-all (s .answers) (s .length) e) at (v)

@@ -1,6 +1,6 @@
 use borrow.Author.Needs.{needs}
-use Rattle.carmuspeno.proofs.answer_face.Statement.{statement}
-use Rattle.carmuspeno.proofs.answer_face.Tie as tie
+use Rattle.face.proofs.answer_face.Statement.{statement}
+use Rattle.face.proofs.answer_face.Tie as tie
 
 returns : tie.Need-returns
 returns c = rw (c .number .ensures)
