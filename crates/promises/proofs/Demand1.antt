@@ -26,9 +26,11 @@ use Rattle.tables.specs.declared.TableRead.{TableRead}
 use Rattle.tables.specs.Meaning.{tableOf, refuseTable, readOf, Table, WellFormed, Consistent, tableBytes, FirstDisagreement}
 use Rattle.nodes.specs.Meaning.{evaluateOf, full, heights}
 use Rattle.compiler.specs.declared.Compiled.{Compiled}
-use Rattle.compiler.specs.Meaning.{tableSize, refuseCompiled, compileOf, writtenOf}
+use Rattle.formula.specs.Meaning.{tableSize}
+use Rattle.compiler.specs.Meaning.{refuseCompiled, compileOf, writtenOf}
+use Rattle.steps.specs.Meaning.{firstSituation}
 use Rattle.growth.specs.declared.Growth.{Growth}
-use Rattle.growth.specs.Meaning.{answerAt, firstSituation, without, shown, growthOf}
+use Rattle.growth.specs.Meaning.{answerAt, without, shown, growthOf}
 use Rattle.replying.proofs.ReplyLaws.{either, numbers-refused, replied-success, replied-numbers, replied-refuse, replied-after}
 use Rattle.replying.proofs.TableNumbers.{readOf-read, short-room}
 use Rattle.replying.proofs.NodeNumbers.{faultOf-numbers, answers-succeed, answers-after, evaluateOf-answers, operand-numbers, columns-outside, growth-outside}

@@ -19,9 +19,10 @@ use Rattle.answers.specs.Meaning.{number, succeed}
 use Rattle.situations.specs.Meaning.{fault, answersOf}
 use Rattle.nodes.specs.Meaning.{full, run, evaluateOf}
 use Rattle.running.proofs.Leads.{leads-answer}
-use Rattle.compiler.specs.Meaning.{selector, tableNodes, tableSize, compileOf, writtenOf}
-use Rattle.compiler.proofs.Formula.{table-size}
-use Rattle.compiler.proofs.Largest.{table-most}
+use Rattle.formula.specs.Meaning.{selector, tableNodes, tableSize}
+use Rattle.compiler.specs.Meaning.{compileOf, writtenOf}
+use Rattle.formula.proofs.Sizes.{table-size}
+use Rattle.formula.proofs.Largest.{table-most}
 use Rattle.selection.proofs.Picking.{selector-picks, leads-selector}
 use Rattle.selection.proofs.Replies.{accepted-read, accepted-room, accepted-count, accepted-nodes, accepted-rest, fits-accepted}
 use Rattle.selection.proofs.Trees.{tree-answers}

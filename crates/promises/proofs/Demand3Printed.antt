@@ -21,7 +21,8 @@ use Rattle.selection.proofs.Replies.{accepted-read, accepted-reply, fits-accept
 use Rattle.growth.specs.declared.Growth.{Growth}
 use Rattle.growth.specs.Meaning.{growthOf}
 use Rattle.growing.specs.Meaning.{Grows, FirstFailing}
-use Rattle.judging.specs.Meaning.{growthYes, growthNo, countLines, answersText, raisedText, growthLine, textOf}
+use Rattle.lines.specs.Meaning.{growthYes, growthNo, countLines, answersText, raisedText, growthLine}
+use Rattle.judging.specs.Meaning.{textOf}
 use Rattle.situations.proofs.Columns.{byValue-numbers}
 use Rattle.promises.specs.Meaning.{Accepts, Compiles, nodesWritten}
 use Rattle.promises.proofs.Demand2Tables.{accepted-short, accepted-columns, count-at-most, accepted-writes-nodes}

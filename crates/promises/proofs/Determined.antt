@@ -35,10 +35,10 @@ use Rattle.operands.proofs.contained as operands-contained
 use Rattle.situations.proofs.fault as situations-fault
 use Rattle.situations.proofs.Situation.fault as situations-by-value-fault
 use Rattle.situations.proofs.Situation.merge as situations-merge
-use Rattle.situations.proofs.base4.weight as situations-weight
-use Rattle.situations.proofs.base4.digit as situations-digit
-use Rattle.situations.proofs.base4.situation_at as situations-situation-at
-use Rattle.situations.proofs.base4.index as situations-index
+use Rattle.base4.proofs.weight as base4-weight
+use Rattle.base4.proofs.digit as base4-digit
+use Rattle.base4.proofs.situation_at as base4-situation-at
+use Rattle.base4.proofs.index as base4-index
 use Rattle.notices.proofs.read_notice as notices-read-notice
 use Rattle.notices.proofs.look_up as notices-look-up
 use Rattle.notices.proofs.compare as notices-compare
@@ -147,17 +147,17 @@ situations-by-value-fault-determined = record { result = λ κs a x y s t p q. p
 pub situations-merge-determined : Determined situations-merge.Kinds.ps situations-merge.Kinds.r situations-merge.Reads.Post
 situations-merge-determined = record { result = λ κs a x y s t p q. p ∙ sym q }
 
-pub situations-weight-determined : Determined situations-weight.Kinds.ps situations-weight.Kinds.r situations-weight.Reads.Post
-situations-weight-determined = record { result = λ κs a x y s t p q. p ∙ sym q }
+pub base4-weight-determined : Determined base4-weight.Kinds.ps base4-weight.Kinds.r base4-weight.Reads.Post
+base4-weight-determined = record { result = λ κs a x y s t p q. p ∙ sym q }
 
-pub situations-digit-determined : Determined situations-digit.Kinds.ps situations-digit.Kinds.r situations-digit.Reads.Post
-situations-digit-determined = record { result = λ κs a x y s t p q. p ∙ sym q }
+pub base4-digit-determined : Determined base4-digit.Kinds.ps base4-digit.Kinds.r base4-digit.Reads.Post
+base4-digit-determined = record { result = λ κs a x y s t p q. p ∙ sym q }
 
-pub situations-situation-at-determined : Determined situations-situation-at.Kinds.ps situations-situation-at.Kinds.r situations-situation-at.Reads.Post
-situations-situation-at-determined = record { result = λ κs a x y s t p q. p ∙ sym q }
+pub base4-situation-at-determined : Determined base4-situation-at.Kinds.ps base4-situation-at.Kinds.r base4-situation-at.Reads.Post
+base4-situation-at-determined = record { result = λ κs a x y s t p q. p ∙ sym q }
 
-pub situations-index-determined : Determined situations-index.Kinds.ps situations-index.Kinds.r situations-index.Reads.Post
-situations-index-determined = record { result = λ κs a x y s t p q. p ∙ sym q }
+pub base4-index-determined : Determined base4-index.Kinds.ps base4-index.Kinds.r base4-index.Reads.Post
+base4-index-determined = record { result = λ κs a x y s t p q. p ∙ sym q }
 
 pub notices-read-notice-determined : Determined notices-read-notice.Kinds.ps notices-read-notice.Kinds.r notices-read-notice.Reads.Post
 notices-read-notice-determined = record { result = λ κs a x y s t p q. p ∙ sym q }

@@ -1,4 +1,4 @@
--- Each public function's contract determines what it returns and every lent byte. Here: tables, nodes, texts.
+-- Each public function's contract determines what it returns and every lent byte. Here: tables, nodes, texts, faces.
 -- `Post` is the contract itself, as the checker reads it off the source.
 use mathlib.Core.Path.{sym, _∙_}
 use denote.Ref.{now}
@@ -8,21 +8,38 @@ use Rattle.rows.proofs.row_bytes as rows-row-bytes
 use Rattle.rows.proofs.cells as rows-cells
 use Rattle.rows.proofs.outcome as rows-outcome
 use Rattle.rows.proofs.first_overlap as rows-first-overlap
+use Rattle.faults.proofs.columns_fault as faults-columns-fault
+use Rattle.faults.proofs.row_fault as faults-row-fault
 use Rattle.tables.proofs.rows_of as tables-rows-of
 use Rattle.tables.proofs.read_table as tables-read-table
+use Rattle.selectors.proofs.put_selector as selectors-put-selector
+use Rattle.writing.proofs.put_table as writing-put-table
 use Rattle.compiler.proofs.compile as compiler-compile
 use Rattle.nodes.proofs.decode as nodes-decode
 use Rattle.nodes.proofs.full as nodes-full
 use Rattle.nodes.proofs.climb as nodes-climb
 use Rattle.nodes.proofs.past as nodes-past
-use Rattle.nodes.proofs.evaluate as nodes-evaluate
+use Rattle.evaluator.proofs.evaluate as evaluator-evaluate
 use Rattle.planes.proofs.fill as planes-fill
+use Rattle.steps.proofs.step_from as steps-step-from
+use Rattle.seeking.proofs.first_step as seeking-first-step
 use Rattle.growth.proofs.check_growth as growth-check-growth
 use Rattle.text.proofs.put_bytes as text-put-bytes
 use Rattle.text.proofs.put_number as text-put-number
 use Rattle.text.proofs.put_line as text-put-line
 use Rattle.text.proofs.put_refusal as text-put-refusal
+use Rattle.lines.proofs.put_counts as lines-put-counts
+use Rattle.lines.proofs.put_growth as lines-put-growth
 use Rattle.judging.proofs.judge as judging-judge
+use Rattle.face.proofs.answer_face as face-answer
+use Rattle.face.proofs.one as face-one
+use Rattle.face.proofs.two as face-two
+use Rattle.face.proofs.contained_face as face-contained
+use Rattle.face.proofs.compiled_face as face-compiled
+use Rattle.face.proofs.situation_behind as face-situation-behind
+use Rattle.face.proofs.merged_face as face-merged
+use Rattle.face.proofs.growth_face as face-growth
+use Rattle.face.proofs.noticed_face as face-noticed
 
 pub rows-row-count-determined : Determined rows-row-count.Kinds.ps rows-row-count.Kinds.r rows-row-count.Reads.Post
 rows-row-count-determined = record { result = λ κs a x y s t p q. p ∙ sym q }
@@ -39,11 +56,23 @@ rows-outcome-determined = record { result = λ κs a x y s t p q. p ∙ sym q }
 pub rows-first-overlap-determined : Determined rows-first-overlap.Kinds.ps rows-first-overlap.Kinds.r rows-first-overlap.Reads.Post
 rows-first-overlap-determined = record { result = λ κs a x y s t p q. p ∙ sym q }
 
+pub faults-columns-fault-determined : Determined faults-columns-fault.Kinds.ps faults-columns-fault.Kinds.r faults-columns-fault.Reads.Post
+faults-columns-fault-determined = record { result = λ κs a x y s t p q. p ∙ sym q }
+
+pub faults-row-fault-determined : Determined faults-row-fault.Kinds.ps faults-row-fault.Kinds.r faults-row-fault.Reads.Post
+faults-row-fault-determined = record { result = λ κs a x y s t p q. p ∙ sym q }
+
 pub tables-rows-of-determined : DeterminedPart tables-rows-of.Kinds.ps 0 tt tables-rows-of.Reads.Post
 tables-rows-of-determined = record { bytes = λ κs a x y s t p q. p ∙ sym q }
 
 pub tables-read-table-determined : Determined tables-read-table.Kinds.ps tables-read-table.Kinds.r tables-read-table.Reads.Post
 tables-read-table-determined = record { result = λ κs a x y s t p q. p ∙ sym q }
+
+pub selectors-put-selector-determined : DeterminedLent selectors-put-selector.Kinds.ps selectors-put-selector.Kinds.r selectors-put-selector.Reads.Post (λ κs s. now (s .0))
+selectors-put-selector-determined = record { result = λ κs a x y s t p q. p .ends ∙ sym (q .ends); lent = λ κs a x y s t p q. p .holds ∙ sym (q .holds) }
+
+pub writing-put-table-determined : DeterminedLent writing-put-table.Kinds.ps writing-put-table.Kinds.r writing-put-table.Reads.Post (λ κs s. now (s .0))
+writing-put-table-determined = record { result = λ κs a x y s t p q. p .ends ∙ sym (q .ends); lent = λ κs a x y s t p q. p .holds ∙ sym (q .holds) }
 
 pub compiler-compile-determined : DeterminedLent compiler-compile.Kinds.ps compiler-compile.Kinds.r compiler-compile.Reads.Post (λ κs s. now (s .1 .0))
 compiler-compile-determined = record { result = λ κs a x y s t p q. p .0 ∙ sym (q .0); lent = λ κs a x y s t p q. p .1 ∙ sym (q .1) }
@@ -60,11 +89,17 @@ nodes-climb-determined = record { result = λ κs a x y s t p q. p ∙ sym q }
 pub nodes-past-determined : Determined nodes-past.Kinds.ps nodes-past.Kinds.r nodes-past.Reads.Post
 nodes-past-determined = record { result = λ κs a x y s t p q. p ∙ sym q }
 
-pub nodes-evaluate-determined : Determined nodes-evaluate.Kinds.ps nodes-evaluate.Kinds.r nodes-evaluate.Reads.Post
-nodes-evaluate-determined = record { result = λ κs a x y s t p q. p ∙ sym q }
+pub evaluator-evaluate-determined : Determined evaluator-evaluate.Kinds.ps evaluator-evaluate.Kinds.r evaluator-evaluate.Reads.Post
+evaluator-evaluate-determined = record { result = λ κs a x y s t p q. p ∙ sym q }
 
 pub planes-fill-determined : Determined planes-fill.Kinds.ps planes-fill.Kinds.r planes-fill.Reads.Post
 planes-fill-determined = record { result = λ κs a x y s t p q. p ∙ sym q }
+
+pub steps-step-from-determined : Determined steps-step-from.Kinds.ps steps-step-from.Kinds.r steps-step-from.Reads.Post
+steps-step-from-determined = record { result = λ κs a x y s t p q. p ∙ sym q }
+
+pub seeking-first-step-determined : Determined seeking-first-step.Kinds.ps seeking-first-step.Kinds.r seeking-first-step.Reads.Post
+seeking-first-step-determined = record { result = λ κs a x y s t p q. p ∙ sym q }
 
 pub growth-check-growth-determined : Determined growth-check-growth.Kinds.ps growth-check-growth.Kinds.r growth-check-growth.Reads.Post
 growth-check-growth-determined = record { result = λ κs a x y s t p q. p ∙ sym q }
@@ -81,5 +116,38 @@ text-put-line-determined = record { result = λ κs a x y s t p q. p .ends ∙ s
 pub text-put-refusal-determined : DeterminedLent text-put-refusal.Kinds.ps text-put-refusal.Kinds.r text-put-refusal.Reads.Post (λ κs s. now (s .0))
 text-put-refusal-determined = record { result = λ κs a x y s t p q. p .ends ∙ sym (q .ends); lent = λ κs a x y s t p q. p .holds ∙ sym (q .holds) }
 
+pub lines-put-counts-determined : DeterminedLent lines-put-counts.Kinds.ps lines-put-counts.Kinds.r lines-put-counts.Reads.Post (λ κs s. now (s .0))
+lines-put-counts-determined = record { result = λ κs a x y s t p q. p .ends ∙ sym (q .ends); lent = λ κs a x y s t p q. p .holds ∙ sym (q .holds) }
+
+pub lines-put-growth-determined : DeterminedLent lines-put-growth.Kinds.ps lines-put-growth.Kinds.r lines-put-growth.Reads.Post (λ κs s. now (s .0))
+lines-put-growth-determined = record { result = λ κs a x y s t p q. p .ends ∙ sym (q .ends); lent = λ κs a x y s t p q. p .holds ∙ sym (q .holds) }
+
 pub judging-judge-determined : DeterminedLent judging-judge.Kinds.ps judging-judge.Kinds.r judging-judge.Reads.Post (λ κs s. now (s .1 .0))
 judging-judge-determined = record { result = λ κs a x y s t p q. p .0 ∙ sym (q .0); lent = λ κs a x y s t p q. p .1 ∙ sym (q .1) }
+
+pub face-answer-determined : Determined face-answer.Kinds.ps face-answer.Kinds.r face-answer.Reads.Post
+face-answer-determined = record { result = λ κs a x y s t p q. p ∙ sym q }
+
+pub face-one-determined : Determined face-one.Kinds.ps face-one.Kinds.r face-one.Reads.Post
+face-one-determined = record { result = λ κs a x y s t p q. p ∙ sym q }
+
+pub face-two-determined : Determined face-two.Kinds.ps face-two.Kinds.r face-two.Reads.Post
+face-two-determined = record { result = λ κs a x y s t p q. p ∙ sym q }
+
+pub face-contained-determined : Determined face-contained.Kinds.ps face-contained.Kinds.r face-contained.Reads.Post
+face-contained-determined = record { result = λ κs a x y s t p q. p ∙ sym q }
+
+pub face-compiled-determined : Determined face-compiled.Kinds.ps face-compiled.Kinds.r face-compiled.Reads.Post
+face-compiled-determined = record { result = λ κs a x y s t p q. p ∙ sym q }
+
+pub face-situation-behind-determined : Determined face-situation-behind.Kinds.ps face-situation-behind.Kinds.r face-situation-behind.Reads.Post
+face-situation-behind-determined = record { result = λ κs a x y s t p q. p ∙ sym q }
+
+pub face-merged-determined : Determined face-merged.Kinds.ps face-merged.Kinds.r face-merged.Reads.Post
+face-merged-determined = record { result = λ κs a x y s t p q. p ∙ sym q }
+
+pub face-growth-determined : Determined face-growth.Kinds.ps face-growth.Kinds.r face-growth.Reads.Post
+face-growth-determined = record { result = λ κs a x y s t p q. p ∙ sym q }
+
+pub face-noticed-determined : Determined face-noticed.Kinds.ps face-noticed.Kinds.r face-noticed.Reads.Post
+face-noticed-determined = record { result = λ κs a x y s t p q. p ∙ sym q }

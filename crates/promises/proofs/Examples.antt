@@ -8,12 +8,16 @@ use Rattle.fields.specs.Meaning.{firstAbove}
 use Rattle.answers.specs.Meaning.{number, fromNumber, turn, truthMeet, join, implication, replace}
 use Rattle.situations.specs.Meaning.{fault, situationAt}
 use Rattle.rows.specs.Meaning.{rowCount, rowBytes, rowsOf, rowFields, overlap, overlapOf, overlapIn, disagreeAt}
-use Rattle.tables.specs.Meaning.{tableOf, valueFault, columnsFault, rowFault, rowsFrom, fieldsOf, readOf, tableBytes}
+use Rattle.faults.specs.Meaning.{valueFault, columnsFault, rowFault}
+use Rattle.tables.specs.Meaning.{tableOf, rowsFrom, fieldsOf, readOf, tableBytes}
 use Rattle.nodes.specs.Meaning.{climb, act, run, evaluateOf}
-use Rattle.compiler.specs.Meaning.{turned, selector, selectors, followed, together, rowNodes, rowsLeft, tableNodes, selectorSize, selectorSizes, total, sizeOf, rowSize, tableSize, compileOf}
-use Rattle.growth.specs.Meaning.{firstFrom, firstAnswer, columnFails, firstColumn, situationFails, firstSituation, growthOf}
+use Rattle.formula.specs.Meaning.{turned, selector, selectors, followed, together, rowNodes, rowsLeft, tableNodes, selectorSize, selectorSizes, total, sizeOf, rowSize, tableSize}
+use Rattle.compiler.specs.Meaning.{compileOf}
+use Rattle.steps.specs.Meaning.{firstFrom, firstAnswer, columnFails, firstColumn, situationFails, firstSituation}
+use Rattle.growth.specs.Meaning.{growthOf}
 use Rattle.text.specs.Meaning.{decimalOnto, decimal, numberText, refusalLine}
-use Rattle.judging.specs.Meaning.{countLines, answersText, raisedText, growthLine, textOf}
+use Rattle.lines.specs.Meaning.{countLines, answersText, raisedText, growthLine}
+use Rattle.judging.specs.Meaning.{textOf}
 use Rattle.promises.specs.Meaning.{laptopText, emptyText, noRowsText, largeTable, largeText, nodesOf, keepAtKeep, buryAtSilent, noRows, clashAtAny, laptop}
 
 -- 1 to 6: turn of 3 is 0; truth meet 0, 3 is 1; join 1, 2 is 3; implication 0, 1 is 2; implication 3, 1 is 1; replace 1 in 1 by 2 is 2.

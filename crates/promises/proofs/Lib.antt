@@ -7,5 +7,6 @@ pub mod Demand3Printed
 pub mod Operators
 pub mod Determined
 pub mod DeterminedTables
+pub mod DeterminedWords
 pub mod Face
 pub mod Examples

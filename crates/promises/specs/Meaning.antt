@@ -15,7 +15,8 @@ use Rattle.situations.specs.declared.Situation.{Situation}
 use Rattle.situations.specs.Meaning.{mergeOf}
 use Rattle.rows.specs.Meaning.{is, any}
 use Rattle.tables.specs.Meaning.{Table, readOf, tableOf}
-use Rattle.compiler.specs.Meaning.{compileOf, writtenOf, tableNodes}
+use Rattle.formula.specs.Meaning.{tableNodes}
+use Rattle.compiler.specs.Meaning.{compileOf, writtenOf}
 
 -- "Prove that any two outcomes allowed by it are equal": the results of a function that lends out no memory to be written.
 -- `Post` is the function's own contract: its `ensures`, of the arguments, the result and the arguments at exit.

@@ -13,9 +13,11 @@ use Rattle.fields.specs.Meaning.{shortHeader, shortValue, firstAbove}
 use Rattle.situations.specs.Meaning.{outside}
 use Rattle.rows.specs.Meaning.{rowWidth, rowCount, pairFault, overlapOf, overlapIn, disagreeAt, firstOverlap}
 use Rattle.tables.specs.declared.TableRead.{TableRead}
-use Rattle.tables.specs.Meaning.{columnsOf, rowsStart, rowsPart, tableOf, otherTag, rowTooMany, otherLength, cellsAt, valueFault, columnsFault, rowFault, refuseTable, acceptTable, rowsFrom, fieldsOf, readOf}
+use Rattle.faults.specs.Meaning.{columnsOf, otherTag, rowTooMany, otherLength, cellsAt, valueFault, columnsFault, rowFault}
+use Rattle.tables.specs.Meaning.{rowsStart, rowsPart, tableOf, refuseTable, acceptTable, rowsFrom, fieldsOf, readOf}
 use Rattle.compiler.specs.declared.Compiled.{Compiled}
-use Rattle.compiler.specs.Meaning.{tableSize, refuseCompiled, compileOf}
+use Rattle.formula.specs.Meaning.{tableSize}
+use Rattle.compiler.specs.Meaning.{refuseCompiled, compileOf}
 use Rattle.accepting.proofs.BelowOverlap.{fieldsOf-small}
 use Rattle.replying.proofs.ReplyLaws.{either, Numbers, numbers-none, numbers-overlap, numbers-cond, first-each, replied-success, replied-numbers, replied-refuse, replied-after}
 use Rattle.replying.specs.Meaning.{Replied}
