@@ -9,7 +9,7 @@ use lib.Seq.{sets, sets-eq}
 use borrow.Author.Tests.{lt-ltb, le-ltb, eq-eqb, ne-eqb, ltb-true, ltb-false}
 use native.Mathlib.Nat.{zero-add}
 use native.Mathlib.Omega.{arith}
-use Rattle.lent.specs.Meaning.{Placed}
+use Rattle.lent.specs.Meaning.{WroteWhole}
 use Rattle.lent.proofs.Laws.{placed-nothing, placed-all, placed-wrote}
 use Rattle.refusals.specs.Meaning.{none, refused, ROOM}
 use Rattle.refusals.specs.declared.Refusal.{Refusal}
@@ -57,7 +57,7 @@ module _ (t : List ℕ) {f : TableRead} (e : f ≡ readOf t) where
 
     module _
         {rows : List ℕ} (g : rows ≡ rowsPart t) (lent : List ℕ) {new : List ℕ} {needed : ℕ}
-        (p : Placed lent 0 (tableNodes (tableWith rows (f .columns) (f .rows % 128))) new needed)
+        (p : WroteWhole lent 0 (tableNodes (tableWith rows (f .columns) (f .rows % 128))) new needed)
       where
         table-is : tableWith rows (f .columns) (f .rows % 128) ≡ tableOf t
         table-is =

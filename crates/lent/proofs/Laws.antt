@@ -9,7 +9,7 @@ use lib.Seq.{sets, length-sets}
 use borrow.Author.Tests.{lt-ltb, le-ltb}
 use native.Mathlib.Nat.{add-zero}
 use native.Mathlib.Omega.{arith}
-use Rattle.lent.specs.Meaning.{Placed}
+use Rattle.lent.specs.Meaning.{WroteWhole}
 use Rattle.lent.specs.Inside.{Wrote, Writing}
 
 pub sets-append : (l : List ℕ) (i : ℕ) (xs ys : List ℕ) → sets l i (xs ++ ys) ≡ sets (sets l i xs) (i + length xs) ys
@@ -78,22 +78,22 @@ pub within-first : (xs ys : List ℕ) {whole : List ℕ} → whole ≡ xs ++ ys 
 within-first xs ys e at most h = let size = ap length e ∙ length-append xs ys in omega arith
 
 -- what public functions promise, and what they say inside
-pub placed-none : (b : List ℕ) (i : ℕ) → Placed b i [] b i
+pub placed-none : (b : List ℕ) (i : ℕ) → WroteWhole b i [] b i
 placed-none b i = record { ends = sym (add-zero i); holds = same (ltb (length b) (i + 0)) }
   where
     same : (s : Bool) → b ≡ cond s b b
     same true = refl
     same false = refl
 
-pub placed-counted : (b : List ℕ) (i : ℕ) (xs : List ℕ) {next : ℕ} → next ≡ i + length xs → length b < next → Placed b i xs b next
+pub placed-counted : (b : List ℕ) (i : ℕ) (xs : List ℕ) {next : ℕ} → next ≡ i + length xs → length b < next → WroteWhole b i xs b next
 placed-counted b i xs e l = record { ends = e; holds = rw (lt-ltb (length b) (i + length xs) (omega arith)) }
 
-pub placed-written : {b xs c : List ℕ} {i next : ℕ} → Wrote b i xs c next → next ≤ length b → Placed b i xs c next
+pub placed-written : {b xs c : List ℕ} {i next : ℕ} → Wrote b i xs c next → next ≤ length b → WroteWhole b i xs c next
 placed-written {b} {xs} {i = i} w l =
     let e = w .ends in
     record { ends = e; holds = rw (le-ltb (length b) (i + length xs) (omega arith)) (w .holds l) }
 
-module _ {b xs c : List ℕ} {i next : ℕ} (p : Placed b i xs c next) where
+module _ {b xs c : List ℕ} {i next : ℕ} (p : WroteWhole b i xs c next) where
   pub placed-nothing : length b < next → c ≡ b
   placed-nothing l = let e = p .ends in p .holds ∙ (rw (lt-ltb (length b) (i + length xs) (omega arith)))
 

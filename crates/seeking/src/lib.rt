@@ -4,14 +4,14 @@
 // steps that fail: the lowest situation in base 4, and the first step from it, as steps has it. It refuses nothing: more than
 // six columns have no step.
 //
-// A word without a failing step is passed over (`lanes`), and only from one with a failing step on are the situations tried
+// A word without a failing step is passed over (`sifting`), and only from one with a failing step on are the situations tried
 // one by one.
 ghost use mathlib.Core.Path.{_≡_};
 ghost use Prim.Native.Nat.{_-_, _^_, _<_};
 ghost use Rattle.situations.specs.Meaning.{weight};
 ghost use Rattle.steps.specs.Meaning.{firstFrom, situationFails, stepFrom, firstStep, inWords};
 
-mod lanes;
+mod sifting;
 
 use steps::Step;
 
@@ -41,7 +41,7 @@ pub fn first_step(bury: &[u64; 64], keep: &[u64; 64], n: usize) -> Step
     let total = base4::weight(n);
     let mut from = 0;
     while from < total {
-        if lanes::word_fails(bury, keep, n, from / 64) {
+        if sifting::word_fails(bury, keep, n, from / 64) {
             return first_from(bury, keep, n, from);
         }
         from += 64;

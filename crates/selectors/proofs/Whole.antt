@@ -4,7 +4,7 @@ use mathlib.Core.Path.{_≡_, refl, ap, sym, _∙_}
 use mathlib.Core.List.{List, _++_, append-assoc}
 use lib.ListN.{length, length-append}
 use native.Mathlib.Omega.{arith}
-use Rattle.lent.specs.Meaning.{Placed}
+use Rattle.lent.specs.Meaning.{WroteWhole}
 use Rattle.lent.specs.Inside.{Wrote}
 use Rattle.lent.proofs.Laws.{wrote-then, placed-none, placed-counted, placed-written}
 use Rattle.answers.specs.Meaning.{number, fromNumber}
@@ -92,7 +92,7 @@ loud (suc zero) h e = omega (arith, e)
 loud (suc (suc zero)) h e = omega (arith, e)
 loud (suc (suc (suc o))) h e = omega (arith, e)
 
-pub silent-written : (column cell o : ℕ) (b : List ℕ) (at : ℕ) → o ≡ 0 → Placed b at (selector column (fromNumber cell) (fromNumber o)) b at
+pub silent-written : (column cell o : ℕ) (b : List ℕ) (at : ℕ) → o ≡ 0 → WroteWhole b at (selector column (fromNumber cell) (fromNumber o)) b at
 unfolding selector
 silent-written column cell o b at e = rw e (placed-none b at)
 
@@ -109,7 +109,7 @@ module _ (column cell o : ℕ) {k n : ℕ} (h : o ≡ 0 → ⊥) (e : k ≡ 3 - 
   pub selector-counted :
       (b : List ℕ) (at : ℕ) →
       length b < at + n →
-      Placed b at (selector column (fromNumber cell) (fromNumber o)) b (at + n)
+      WroteWhole b at (selector column (fromNumber cell) (fromNumber o)) b (at + n)
   selector-counted b at l =
       placed-counted b at (selector column (fromNumber cell) (fromNumber o)) (let long = selector-long in omega arith) l
 
@@ -117,7 +117,7 @@ module _ (column cell o : ℕ) {k n : ℕ} (h : o ≡ 0 → ⊥) (e : k ≡ 3 - 
       {b c : List ℕ} {at r : ℕ} →
       at + n ≤ length b →
       Wrote b at (selectorWith column k (fromNumber o)) c r →
-      Placed b at (selector column (fromNumber cell) (fromNumber o)) c r
+      WroteWhole b at (selector column (fromNumber cell) (fromNumber o)) c r
   selector-written {r = r} l w =
       let v = rw (← selector-is) at w in
       let long = selector-long in

@@ -7,7 +7,7 @@
 ghost use mathlib.Core.Path.{_≡_};
 ghost use Prim.Native.Nat.{_+_, _-_, _%_, _≤_};
 ghost use lib.ListN.{length};
-ghost use Rattle.lent.specs.Meaning.{Placed};
+ghost use Rattle.lent.specs.Meaning.{WroteWhole};
 ghost use Rattle.lent.specs.Inside.{Wrote};
 ghost use Rattle.answers.specs.Meaning.{fromNumber};
 ghost use Rattle.formula.specs.Meaning.{turned, selector};
@@ -121,7 +121,7 @@ fn put_whole(nodes: &mut [u8], at: usize, column: usize, k: usize, outcome: u8) 
 // The selector of a cell at a column, in a row with an outcome; a silent row has none.
 pub fn put_selector(nodes: &mut [u8], at: usize, column: usize, cell: u8, outcome: u8) -> usize
     ensures { λ r.
-        ⌜ Placed (now (nodes .entry)) (at % 65536) (selector (column % 8) (fromNumber cell) (fromNumber outcome)) (now (nodes .exit)) r ⌝ }
+        ⌜ WroteWhole (now (nodes .entry)) (at % 65536) (selector (column % 8) (fromNumber cell) (fromNumber outcome)) (now (nodes .exit)) r ⌝ }
 {
     let start = at % PLACES;
     if outcome == SILENT {

@@ -9,7 +9,7 @@ use lib.Seq.{drop-cons}
 use borrow.Author.Tests.{lt-ltb, le-ltb, eq-eqb, ne-eqb}
 use native.Mathlib.Numerals.{add-one}
 use native.Mathlib.Omega.{arith}
-use Rattle.lent.specs.Meaning.{Placed}
+use Rattle.lent.specs.Meaning.{WroteWhole}
 use Rattle.lent.specs.Inside.{Wrote}
 use Rattle.lent.proofs.Laws.{wrote-none, wrote-then, within-first, placed-wrote}
 use Rattle.answers.specs.Meaning.{number, fromNumber}
@@ -47,7 +47,7 @@ row-some r h = selectors-some 0 (r .outcome) (r .cells) h
 -- what a cell adds; behind its selector stands no place beyond
 pub behind-selector :
     (at column : ℕ) (a j : Answer) {b c : List ℕ} {m : ℕ} →
-    Placed b (at % 65536) (selector column a j) c m →
+    WroteWhole b (at % 65536) (selector column a j) c m →
     m ≤ beyond
 behind-selector at column a j v =
     let ends = v .ends in
@@ -64,7 +64,7 @@ module _ (first : Bool) (column cell : ℕ) (j : Answer) where
 
   pub cell-all :
       {b c d : List ℕ} (at : ℕ) {m n : ℕ} →
-      Placed b (at % 65536) (selector (column % 8) (fromNumber cell) j) c m →
+      WroteWhole b (at % 65536) (selector (column % 8) (fromNumber cell) j) c m →
       Wrote c m (behind 6 first) d n →
       cell < 4 →
       column < 6 →

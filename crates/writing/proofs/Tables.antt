@@ -9,7 +9,7 @@ use borrow.Author.Tests.{eqb-false}
 use native.Mathlib.Nat.{zero-add}
 use native.Mathlib.Numerals.{add-one}
 use native.Mathlib.Omega.{arith}
-use Rattle.lent.specs.Meaning.{Placed}
+use Rattle.lent.specs.Meaning.{WroteWhole}
 use Rattle.lent.specs.Inside.{Wrote}
 use Rattle.lent.proofs.Laws.{placed-counted, placed-written}
 use Rattle.answers.specs.Meaning.{number, fromNumber}
@@ -126,12 +126,12 @@ module _ (n : ℕ) (rows : List ℕ) (m : ℕ) where
   table-counted w = w .ends ∙ zero-add (length (tableNodes (tableWith rows n m)))
 
   module _ {needed : ℕ} (e : needed ≡ length (tableNodes (tableWith rows n m))) where
-    pub table-only-counted : (b : List ℕ) → length b < needed → Placed b 0 (tableNodes (tableWith rows n m)) b needed
+    pub table-only-counted : (b : List ℕ) → length b < needed → WroteWhole b 0 (tableNodes (tableWith rows n m)) b needed
     table-only-counted b l = placed-counted b 0 (tableNodes (tableWith rows n m)) (omega arith) l
 
     pub table-written :
         {b c : List ℕ} {r : ℕ} →
         needed ≤ length b →
         Wrote b 0 (tableNodes (tableWith rows n m)) c r →
-        Placed b 0 (tableNodes (tableWith rows n m)) c r
+        WroteWhole b 0 (tableNodes (tableWith rows n m)) c r
     table-written l w = let ends = w .ends in placed-written w (omega arith)

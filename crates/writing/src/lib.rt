@@ -11,7 +11,7 @@ ghost use mathlib.Core.List.{[], _∷_};
 ghost use Prim.Native.Nat.{_+_, _%_, _≤_, _<_};
 ghost use lib.Dec.{eqb};
 ghost use lib.ListN.{length};
-ghost use Rattle.lent.specs.Meaning.{Placed};
+ghost use Rattle.lent.specs.Meaning.{WroteWhole};
 ghost use Rattle.lent.specs.Inside.{Wrote};
 ghost use Rattle.answers.specs.Meaning.{fromNumber};
 ghost use Rattle.rows.specs.Meaning.{cellOf};
@@ -139,7 +139,7 @@ fn count_rows(rows: &[u8], columns: usize, count: usize) -> usize
 // The table of so many rows of a part. Its nodes are counted before the first of them is written.
 pub fn put_table(nodes: &mut [u8], rows: &[u8], columns: usize, count: usize) -> usize
     ensures { λ r.
-        ⌜ Placed (now (nodes .entry)) 0 (tableNodes (tableWith (now (rows .entry)) columns (count % 128))) (now (nodes .exit)) r ⌝ }
+        ⌜ WroteWhole (now (nodes .entry)) 0 (tableNodes (tableWith (now (rows .entry)) columns (count % 128))) (now (nodes .exit)) r ⌝ }
 {
     let few = count % COUNTS;
     let needed = count_rows(rows, columns, few);

@@ -1,7 +1,7 @@
 use Rattle.seeking.proofs.WordSteps.{apart-fits, within-lost}
 use borrow.Author.Needs.{needs}
-use Rattle.seeking.proofs.lanes.within.Statement.{statement}
-use Rattle.seeking.proofs.lanes.within.Tie as tie
+use Rattle.seeking.proofs.sifting.within.Statement.{statement}
+use Rattle.seeking.proofs.sifting.within.Tie as tie
 
 shr-after : tie.Need-shr-after
 shr-after c = search (needs, apart-fits)

@@ -2,8 +2,8 @@ use borrow.Author.Needs.{needs}
 use Prim.Native.Nat.{_-_}
 use Rattle.seeking.specs.Inside.{Sifting}
 use Rattle.seeking.proofs.WordSteps.{sifting-none, sifting-more, sifted-fails, sifting-all}
-use Rattle.seeking.proofs.lanes.word_fails.Statement.{statement}
-use Rattle.seeking.proofs.lanes.word_fails.Tie as tie
+use Rattle.seeking.proofs.sifting.word_fails.Statement.{statement}
+use Rattle.seeking.proofs.sifting.word_fails.Tie as tie
 
 abbrev Inv-loop : tie.InvT-loop
 Inv-loop bury keep n word bits k₀ k = Sifting bury keep n word k

@@ -1,7 +1,7 @@
 use Rattle.seeking.proofs.WordSteps.{clear-0, clear-1, clear-2, clear-3, clear-4, clear-5}
 use borrow.Author.Needs.{needs}
-use Rattle.seeking.proofs.lanes.clear.Statement.{statement}
-use Rattle.seeking.proofs.lanes.clear.Tie as tie
+use Rattle.seeking.proofs.sifting.clear.Statement.{statement}
+use Rattle.seeking.proofs.sifting.clear.Tie as tie
 
 pub clear-spec : {M : Type 1} → statement M
 clear-spec =

@@ -1,7 +1,7 @@
 use Rattle.seeking.proofs.WordSteps.{tried-within, to-inside, to-times, tried-beyond}
 use borrow.Author.Needs.{needs}
-use Rattle.seeking.proofs.lanes.losing.Statement.{statement}
-use Rattle.seeking.proofs.lanes.losing.Tie as tie
+use Rattle.seeking.proofs.sifting.losing.Statement.{statement}
+use Rattle.seeking.proofs.sifting.losing.Tie as tie
 
 returns : tie.Need-returns
 returns c = search (needs, tried-within)
