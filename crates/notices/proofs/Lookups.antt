@@ -1,5 +1,5 @@
 -- A fact is looked up field by field, in those that stand whole.
-use Prim.Native.Nat.{ℕ, zero, suc, _+_, _-_, _*_, _/_, _≤_, _<_}
+use Prim.Native.Nat.{ℕ, zero, suc, _+_, _-_, _*_, _/_, _%_, _≤_, _<_}
 use mathlib.Core.Path.{_≡_, refl, sym, ap, _∙_}
 use mathlib.Core.Bool.{Bool, true, false, cond}
 use mathlib.Core.List.{List, _∷_}
@@ -7,7 +7,7 @@ use native.Mathlib.Omega.{arith}
 use lib.Dec.{ltb, eqb}
 use lib.ListN.{length, getD, drop, length-drop}
 use lib.Seq.{getD-drop, drop-drop}
-use borrow.Author.Tests.{lt-ltb, le-ltb, eq-eqb, ne-eqb, ltb-true, ltb-false}
+use borrow.Author.Tests.{lt-ltb, le-ltb, eq-eqb, ne-eqb, eqb-true, eqb-false, ltb-true, ltb-false}
 use Rattle.fields.specs.Meaning.{two, four}
 use Rattle.notices.specs.declared.Seen.{Seen}
 use Rattle.notices.specs.declared.Seen.the-variants.{Value, Absent}
@@ -26,6 +26,18 @@ fields-whole s = go (ltb 32 (length s / 9)) refl
     go : (b : Bool) → ltb 32 (length s / 9) ≡ b → cond b 32 (length s / 9) * 9 ≤ length s
     go true e = let h : 32 < length s / 9 = ltb-true 32 (length s / 9) e in omega arith
     go false e = omega arith
+
+-- a number of two bytes is below 65,536; with its bytes exchanged it is the same exactly if it was
+pub too-large : (high low fact : ℕ) → high < 256 → low < 256 → 65536 ≤ fact → false ≡ eqb (two high low) fact
+too-large high low fact h l f = sym (ne-eqb (two high low) fact (λ e. omega (arith, e)))
+
+pub turned : (high low fact : ℕ) {x : ℕ} → high < 256 → low < 256 → fact < 65536 → x ≡ two low high →
+    eqb x (fact % 256 * 256 + fact / 256) ≡ eqb (two high low) fact
+turned high low fact {x} h l f e = go (eqb (two high low) fact) refl
+  where
+    go : (b : Bool) → eqb (two high low) fact ≡ b → eqb x (fact % 256 * 256 + fact / 256) ≡ b
+    go true q = eq-eqb x (fact % 256 * 256 + fact / 256) (omega (arith, e, eqb-true (two high low) fact q))
+    go false q = ne-eqb x (fact % 256 * 256 + fact / 256) (λ z. eqb-false (two high low) fact q (omega (arith, e, z)))
 
 -- further on no field stands whole
 no-more : (left : ℕ) (s : List ℕ) → length s / 9 ≤ left → factsIn (length s / 9) s ≡ factsIn left s
@@ -89,17 +101,17 @@ module _ (s : List ℕ) (fact : ℕ) {count i : ℕ} (l : Looked s fact count i)
       let w = seen-first (count - (i + 1)) (drop (i * 9) s) fact (simp length-drop (omega (arith, l .whole))) in
       sym (l .rest) ∙ rw (k, w, drop-drop 9 (i * 9) s, d)
 
-  module _ {n : ℕ} (f : n ≡ two (getD s (i * 9 + 3) 0) (getD s (i * 9 + 4) 0)) where
-    number-is : firstFact (drop (i * 9) s) .number ≡ n
-    number-is = ap (λ (x : Fact). x .number) (first-behind s (i * 9)) ∙ sym f
+  module _ {b : Bool} (f : b ≡ eqb (two (getD s (i * 9 + 3) 0) (getD s (i * 9 + 4) 0)) fact) where
+    number-is : eqb (firstFact (drop (i * 9) s) .number) fact ≡ b
+    number-is = ap (λ (x : Fact). eqb (x .number) fact) (first-behind s (i * 9)) ∙ sym f
 
-    pub looks-found : {v : ℕ} → n ≡ fact →
+    pub looks-found : {v : ℕ} → b ≡ true →
         v ≡ four (getD s (i * 9 + 5) 0) (getD s (i * 9 + 6) 0) (getD s (i * 9 + 7) 0) (getD s (i * 9 + 8) 0) →
         Value v ≡ seen (factsIn 32 s) fact
-    looks-found q w = sym (opened ∙ rw (number-is, eq-eqb n fact q) (ap Value (ap (λ (x : Fact). x .value) (first-behind s (i * 9)) ∙ sym w)))
+    looks-found q w = sym (opened ∙ rw (number-is, q) (ap Value (ap (λ (x : Fact). x .value) (first-behind s (i * 9)) ∙ sym w)))
 
-    pub looks-on : (n ≡ fact → ⊥) → Looked s fact count (i + 1)
-    looks-on q = record { inside = omega arith; whole = l .whole; rest = sym (opened ∙ rw (number-is, ne-eqb n fact q)) }
+    pub looks-on : b ≡ false → Looked s fact count (i + 1)
+    looks-on q = record { inside = omega arith; whole = l .whole; rest = sym (opened ∙ rw (number-is, q)) }
 
 pub looks-absent : (s : List ℕ) (fact : ℕ) {count i : ℕ} → Looked s fact count i → count ≤ i → Absent ≡ seen (factsIn 32 s) fact
 unfolding seen factsIn

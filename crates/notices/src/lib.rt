@@ -9,7 +9,9 @@
 // The place is the field's offset in the whole notice.
 ghost use mathlib.Core.Path.{_≡_};
 ghost use Prim.Native.Nat.{_+_, _-_, _≤_};
+ghost use lib.Dec.{eqb};
 ghost use lib.ListN.{length};
+ghost use Rattle.fields.specs.Meaning.{two};
 ghost use Rattle.notices.specs.Meaning.{fault, factsIn, seen, compare, present, noticeOf};
 ghost use Rattle.notices.specs.Inside.{sound, sounds, leastAt, fieldsIn};
 use refusals::FACTS;
@@ -154,6 +156,17 @@ fn fields_in(notice: &[u8]) -> usize
     whole
 }
 
+// Whether a fact's number stands in two bytes, high byte first. They are compared as a machine loads them, low byte first, and
+// the fact is turned instead, which a loop does once.
+fn numbered(high: u8, low: u8, fact: u32) -> bool
+    ensures { λ r. ⌜ r ≡ eqb (two high low) fact ⌝ }
+{
+    if fact >= 65536 {
+        return false;
+    }
+    fields::two(low, high) == fact % 256 * 256 + fact / 256
+}
+
 // What the notice says of a fact.
 pub fn look_up(notice: &[u8], fact: u32) -> Seen
     ensures { λ r. ⌜ r ≡ seen (factsIn 32 (now (notice .entry))) fact ⌝ }
@@ -162,7 +175,7 @@ pub fn look_up(notice: &[u8], fact: u32) -> Seen
     let mut i = 0;
     while i < count {
         let at = i * FIELD;
-        if fields::two(notice[at + 3], notice[at + 4]) == fact {
+        if numbered(notice[at + 3], notice[at + 4], fact) {
             return Seen::Value(fields::four(
                 notice[at + 5],
                 notice[at + 6],

@@ -1,16 +1,14 @@
 -- One level of a voice, answered while it is read: what each way through the code gives is the answer of the tree read.
 use Prim.Native.Nat.{ℕ, suc, _+_, _-_, _≤_, _<_}
 use mathlib.Core.Path.{_≡_, refl, sym, ap, _∙_}
-use mathlib.Core.Bool.{Bool, cond, not as opposite}
-use mathlib.Core.List.{List}
+use mathlib.Core.Bool.{not as opposite}
+use mathlib.Core.List.{List, [], _∷_, map}
 use native.Mathlib.Omega.{arith}
-use lib.Dec.{eqb}
 use lib.ListN.{length, getD}
 use borrow.Author.Tests.{le-leb, lt-leb}
 use Rattle.refusals.specs.declared.Refusal.{Refusal}
 use Rattle.refusals.specs.Meaning as refusal
 use Rattle.answers.specs.declared.Answer.{Answer}
-use Rattle.answers.specs.declared.Answer.the-variants.{Silent}
 use Rattle.answers.specs.declared.operators.One.{One}
 use Rattle.answers.specs.declared.operators.Two.{Two}
 use Rattle.answers.specs.Meaning.{number, applyOne, applyTwo}
@@ -22,82 +20,106 @@ use Rattle.codes.specs.declared.TestKind.{TestKind}
 use Rattle.codes.specs.declared.TestKind.the-variants as T
 use Rattle.codes.specs.declared.Joint.{Joint}
 use Rattle.codes.specs.Meaning.{policyKind, testKind}
+use Rattle.sets.specs.Meaning.{pairs, answerSet, answersIn}
+use Rattle.sets.proofs.Handed.{map-handed, pairs-handed}
+use Rattle.truths.specs.Meaning.{truthNumber, truthSet, truthsIn, combine, answered, whenever}
+use Rattle.truths.proofs.Truths.{not-handed, joint-handed, when-handed}
+use Rattle.trees.specs.Meaning.{Policy, Test, one, two, when, not, joint, answers, maySay, mayHold, Read, made, refused, andThen}
+use Rattle.trees.specs.Meaning.{comparisonAt, presentAt, policyBy, testBy, policyAt, testAt}
+use Rattle.leaves.specs.declared.Held.{Held}
+use Rattle.leaves.specs.declared.Held.the-variants as Held
+use Rattle.leaves.specs.Meaning.{held}
 use Rattle.policies.specs.declared.Told.{Told}
 use Rattle.policies.specs.declared.Told.the-variants as Told
-use Rattle.policies.specs.declared.Held.{Held}
-use Rattle.policies.specs.declared.Held.the-variants as Held
-use Rattle.policies.specs.Meaning.{Policy, Test, one, two, when, not, joint, answers, says, holds, compared, combine, Read, made}
-use Rattle.policies.specs.Meaning.{refused, andThen, comparisonAt, presentAt, policyBy, testBy, told, policyAt, testAt}
-use Rattle.policies.specs.Inside.{held}
+use Rattle.policies.specs.Meaning.{told}
 
 level : (left : ℕ) → (left ≡ 0 → ⊥) → left ≡ suc (left - 1)
 level left h = omega (arith, h)
 
--- What is done with an answer that was told, and with a test that was held; a refusal stays.
-abbrev onSaid : {A : Type 0} → (Refusal → A) → (Answer → ℕ → A) → Told → A
-onSaid stop onward (Told.Said a next) = onward a next
-onSaid stop onward (Told.Refused r) = stop r
+-- What is done with a set that was told, and with one that was held; a refusal stays.
+abbrev onTold : {A : Type 0} → (Refusal → A) → (ℕ → ℕ → A) → Told → A
+onTold stop onward (Told.May set next) = onward set next
+onTold stop onward (Told.Refused r) = stop r
 
-abbrev onIs : {A : Type 0} → (Refusal → A) → (Bool → ℕ → A) → Held → A
-onIs stop onward (Held.Is b next) = onward b next
-onIs stop onward (Held.Refused r) = stop r
+abbrev onHeld : {A : Type 0} → (Refusal → A) → (ℕ → ℕ → A) → Held → A
+onHeld stop onward (Held.May set next) = onward set next
+onHeld stop onward (Held.Refused r) = stop r
+
+-- The operators on sets handed on as numbers.
+abbrev one-on : One → ℕ → ℕ
+one-on operator p = answerSet (map (applyOne operator) (answersIn p))
+
+abbrev two-on : Two → ℕ → ℕ → ℕ
+two-on operator p q = answerSet (pairs (applyTwo operator) (answersIn p) (answersIn q))
+
+abbrev when-on : ℕ → ℕ → ℕ
+when-on t p = answerSet (whenever (truthsIn t) (answersIn p))
+
+abbrev not-on : ℕ → ℕ
+not-on t = truthSet (map opposite (truthsIn t))
+
+abbrev joint-on : Joint → ℕ → ℕ → ℕ
+joint-on j t u = truthSet (pairs (combine j) (truthsIn t) (truthsIn u))
+
+abbrev answers-on : Answer → ℕ → ℕ
+answers-on a p = truthSet (map (answered a) (answersIn p))
 
 module _ (fs : List Fact) where
-  -- What a tree answers hangs on what its operands answer alone.
+  -- What a tree may say hangs on what its operands may say alone.
   told-one-of : (operator : One) (x : Read Policy) →
       told fs (andThen x (λ p end. made (one operator p) end)) ≡
-      onSaid Told.Refused (λ a end. Told.Said (applyOne operator a) end) (told fs x)
-  unfolding says told held
-  told-one-of operator (made p end) = refl
+      onTold Told.Refused (λ p end. Told.May (one-on operator p) end) (told fs x)
+  unfolding maySay told held
+  told-one-of operator (made p end) = ap (λ s. Told.May s end) (sym (map-handed number (applyOne operator) (maySay fs p)))
   told-one-of operator (refused r) = refl
 
   told-two-of : (operator : Two) (x : Read Policy) (y : ℕ → Read Policy) →
       told fs (andThen x (λ p next. andThen (y next) (λ q end. made (two operator p q) end))) ≡
-      onSaid Told.Refused (λ a next. onSaid Told.Refused (λ b end. Told.Said (applyTwo operator a b) end) (told fs (y next))) (told fs x)
-  unfolding says told held
+      onTold Told.Refused (λ p next. onTold Told.Refused (λ q end. Told.May (two-on operator p q) end) (told fs (y next))) (told fs x)
+  unfolding maySay told held
   told-two-of operator (made p next) y = go (y next)
     where
       go : (x : Read Policy) → told fs (andThen x (λ q end. made (two operator p q) end)) ≡
-          onSaid Told.Refused (λ b end. Told.Said (applyTwo operator (says fs (compared fs) p) b) end) (told fs x)
-      go (made q end) = refl
+          onTold Told.Refused (λ q end. Told.May (two-on operator (answerSet (maySay fs p)) q) end) (told fs x)
+      go (made q end) = ap (λ s. Told.May s end) (sym (pairs-handed (applyTwo operator) (maySay fs p) (maySay fs q)))
       go (refused r) = refl
   told-two-of operator (refused r) y = refl
 
   told-when-of : (x : Read Test) (y : ℕ → Read Policy) →
       told fs (andThen x (λ t next. andThen (y next) (λ p end. made (when t p) end))) ≡
-      onIs Told.Refused (λ b next. onSaid Told.Refused (λ a end. Told.Said (cond b a Silent) end) (told fs (y next))) (held fs x)
-  unfolding says told held
+      onHeld Told.Refused (λ t next. onTold Told.Refused (λ p end. Told.May (when-on t p) end) (told fs (y next))) (held fs x)
+  unfolding maySay told held
   told-when-of (made t next) y = go (y next)
     where
       go : (x : Read Policy) → told fs (andThen x (λ p end. made (when t p) end)) ≡
-          onSaid Told.Refused (λ a end. Told.Said (cond (holds fs (compared fs) t) a Silent) end) (told fs x)
-      go (made p end) = refl
+          onTold Told.Refused (λ p end. Told.May (when-on (truthSet (mayHold fs t)) p) end) (told fs x)
+      go (made p end) = ap (λ s. Told.May s end) (sym (when-handed (mayHold fs t) (maySay fs p)))
       go (refused r) = refl
   told-when-of (refused r) y = refl
 
   held-not-of : (x : Read Test) →
-      held fs (andThen x (λ t end. made (not t) end)) ≡ onIs Held.Refused (λ b end. Held.Is (opposite b) end) (held fs x)
-  unfolding says told held
-  held-not-of (made t end) = refl
+      held fs (andThen x (λ t end. made (not t) end)) ≡ onHeld Held.Refused (λ t end. Held.May (not-on t) end) (held fs x)
+  unfolding maySay told held
+  held-not-of (made t end) = ap (λ s. Held.May s end) (sym (not-handed opposite (mayHold fs t)))
   held-not-of (refused r) = refl
 
   held-joint-of : (j : Joint) (x : Read Test) (y : ℕ → Read Test) →
       held fs (andThen x (λ t next. andThen (y next) (λ u end. made (joint j t u) end))) ≡
-      onIs Held.Refused (λ b next. onIs Held.Refused (λ c end. Held.Is (combine j b c) end) (held fs (y next))) (held fs x)
-  unfolding says told held
+      onHeld Held.Refused (λ t next. onHeld Held.Refused (λ u end. Held.May (joint-on j t u) end) (held fs (y next))) (held fs x)
+  unfolding maySay told held
   held-joint-of j (made t next) y = go (y next)
     where
       go : (x : Read Test) → held fs (andThen x (λ u end. made (joint j t u) end)) ≡
-          onIs Held.Refused (λ c end. Held.Is (combine j (holds fs (compared fs) t) c) end) (held fs x)
-      go (made u end) = refl
+          onHeld Held.Refused (λ u end. Held.May (joint-on j (truthSet (mayHold fs t)) u) end) (held fs x)
+      go (made u end) = ap (λ s. Held.May s end) (sym (joint-handed (combine j) (mayHold fs t) (mayHold fs u)))
       go (refused r) = refl
   held-joint-of j (refused r) y = refl
 
   held-answers-of : (wanted : Answer) (x : Read Policy) →
       held fs (andThen x (λ p end. made (answers wanted p) end)) ≡
-      onSaid Held.Refused (λ a end. Held.Is (eqb (number a) (number wanted)) end) (told fs x)
-  unfolding says told held
-  held-answers-of wanted (made p end) = refl
+      onTold Held.Refused (λ p end. Held.May (answers-on wanted p) end) (told fs x)
+  unfolding maySay told held
+  held-answers-of wanted (made p end) = ap (λ s. Held.May s end) (sym (map-handed truthNumber (answered wanted) (maySay fs p)))
   held-answers-of wanted (refused r) = refl
 
 module _ (fs : List Fact) (v : List ℕ) (at : ℕ) where
@@ -128,9 +150,9 @@ module _ (fs : List Fact) (v : List ℕ) (at : ℕ) where
           ap (λ k. told fs (policyAt k v at)) (level left some) ∙ rw (lt-leb (length v) at l)
           (ap (λ x. told fs (policyBy (λ i. policyAt (left - 1) v i) (λ i. testAt (left - 1) v i) at x)) (sym k ∙ e))
 
-      pub told-constant : {a : Answer} → kind ≡ P.Constant a → Told.Said a (at + 1) ≡ told fs (policyAt left v at)
-      unfolding says told
-      told-constant {a} e = sym (told-by (P.Constant a) e)
+      pub told-constant : {a : Answer} {r : ℕ} → kind ≡ P.Constant a → r ≡ answerSet (a ∷ []) → Told.May r (at + 1) ≡ told fs (policyAt left v at)
+      unfolding maySay told
+      told-constant {a} e w = rw w (sym (told-by (P.Constant a) e))
 
       pub told-foreign : {r : Refusal} → kind ≡ P.Foreign → r ≡ refusal.refused refusal.CODE at →
           Told.Refused r ≡ told fs (policyAt left v at)
@@ -138,11 +160,11 @@ module _ (fs : List Fact) (v : List ℕ) (at : ℕ) where
       told-foreign e w = rw w (sym (told-by P.Foreign e))
 
       module _ {operator : One} (e : kind ≡ P.One operator) {x : Told} (f : x ≡ told fs (policyAt (left - 1) v (at + 1))) where
-        one-by : told fs (policyAt left v at) ≡ onSaid Told.Refused (λ a end. Told.Said (applyOne operator a) end) x
+        one-by : told fs (policyAt left v at) ≡ onTold Told.Refused (λ p end. Told.May (one-on operator p) end) x
         one-by = rw f (told-by (P.One operator) e ∙ told-one-of fs operator (policyAt (left - 1) v (at + 1)))
 
-        pub told-one : {p r : Answer} {end : ℕ} → x ≡ Told.Said p end → r ≡ applyOne operator p →
-            Told.Said r end ≡ told fs (policyAt left v at)
+        pub told-one : {p r end : ℕ} → x ≡ Told.May p end → r ≡ one-on operator p →
+            Told.May r end ≡ told fs (policyAt left v at)
         told-one g w = rw (one-by, g, w)
 
         pub told-one-stop : {r : Refusal} → x ≡ Told.Refused r → Told.Refused r ≡ told fs (policyAt left v at)
@@ -150,16 +172,16 @@ module _ (fs : List Fact) (v : List ℕ) (at : ℕ) where
 
       module _ {operator : Two} (e : kind ≡ P.Two operator) {x : Told} (f : x ≡ told fs (policyAt (left - 1) v (at + 1))) where
         two-by : told fs (policyAt left v at) ≡
-            onSaid Told.Refused
-            (λ a next. onSaid Told.Refused (λ b end. Told.Said (applyTwo operator a b) end) (told fs (policyAt (left - 1) v next))) x
+            onTold Told.Refused
+            (λ p next. onTold Told.Refused (λ q end. Told.May (two-on operator p q) end) (told fs (policyAt (left - 1) v next))) x
         two-by = rw f (told-by (P.Two operator) e ∙ told-two-of fs operator (policyAt (left - 1) v (at + 1)) (λ i. policyAt (left - 1) v i))
 
         pub told-two-first : {r : Refusal} → x ≡ Told.Refused r → Told.Refused r ≡ told fs (policyAt left v at)
         told-two-first g = rw (two-by, g)
 
-        module _ {p : Answer} {next : ℕ} {y : Told} (g : x ≡ Told.Said p next) (h : y ≡ told fs (policyAt (left - 1) v next)) where
-          pub told-two : {q r : Answer} {end : ℕ} → y ≡ Told.Said q end → r ≡ applyTwo operator p q →
-              Told.Said r end ≡ told fs (policyAt left v at)
+        module _ {p next : ℕ} {y : Told} (g : x ≡ Told.May p next) (h : y ≡ told fs (policyAt (left - 1) v next)) where
+          pub told-two : {q r end : ℕ} → y ≡ Told.May q end → r ≡ two-on operator p q →
+              Told.May r end ≡ told fs (policyAt left v at)
           told-two i w = rw (two-by, g, ← h, i, w)
 
           pub told-two-stop : {r : Refusal} → y ≡ Told.Refused r → Told.Refused r ≡ told fs (policyAt left v at)
@@ -167,16 +189,16 @@ module _ (fs : List Fact) (v : List ℕ) (at : ℕ) where
 
       module _ (e : kind ≡ P.When) {x : Held} (f : x ≡ held fs (testAt (left - 1) v (at + 1))) where
         when-by : told fs (policyAt left v at) ≡
-            onIs Told.Refused
-            (λ b next. onSaid Told.Refused (λ a end. Told.Said (cond b a Silent) end) (told fs (policyAt (left - 1) v next))) x
+            onHeld Told.Refused
+            (λ t next. onTold Told.Refused (λ p end. Told.May (when-on t p) end) (told fs (policyAt (left - 1) v next))) x
         when-by = rw f (told-by P.When e ∙ told-when-of fs (testAt (left - 1) v (at + 1)) (λ i. policyAt (left - 1) v i))
 
         pub told-when-first : {r : Refusal} → x ≡ Held.Refused r → Told.Refused r ≡ told fs (policyAt left v at)
         told-when-first g = rw (when-by, g)
 
-        module _ {t : Bool} {next : ℕ} {y : Told} (g : x ≡ Held.Is t next) (h : y ≡ told fs (policyAt (left - 1) v next)) where
-          pub told-when : {p r : Answer} {end : ℕ} → y ≡ Told.Said p end → r ≡ cond t p Silent →
-              Told.Said r end ≡ told fs (policyAt left v at)
+        module _ {t next : ℕ} {y : Told} (g : x ≡ Held.May t next) (h : y ≡ told fs (policyAt (left - 1) v next)) where
+          pub told-when : {p r end : ℕ} → y ≡ Told.May p end → r ≡ when-on t p →
+              Told.May r end ≡ told fs (policyAt left v at)
           told-when i w = rw (when-by, g, ← h, i, w)
 
           pub told-when-stop : {r : Refusal} → y ≡ Told.Refused r → Told.Refused r ≡ told fs (policyAt left v at)
@@ -203,10 +225,10 @@ module _ (fs : List Fact) (v : List ℕ) (at : ℕ) where
       held-present e w = w ∙ sym (held-by T.Present e)
 
       module _ (e : kind ≡ T.Not) {x : Held} (f : x ≡ held fs (testAt (left - 1) v (at + 1))) where
-        not-by : held fs (testAt left v at) ≡ onIs Held.Refused (λ b end. Held.Is (opposite b) end) x
+        not-by : held fs (testAt left v at) ≡ onHeld Held.Refused (λ t end. Held.May (not-on t) end) x
         not-by = rw f (held-by T.Not e ∙ held-not-of fs (testAt (left - 1) v (at + 1)))
 
-        pub held-not : {t r : Bool} {end : ℕ} → x ≡ Held.Is t end → r ≡ opposite t → Held.Is r end ≡ held fs (testAt left v at)
+        pub held-not : {t r end : ℕ} → x ≡ Held.May t end → r ≡ not-on t → Held.May r end ≡ held fs (testAt left v at)
         held-not g w = rw (not-by, g, w)
 
         pub held-not-stop : {r : Refusal} → x ≡ Held.Refused r → Held.Refused r ≡ held fs (testAt left v at)
@@ -214,25 +236,25 @@ module _ (fs : List Fact) (v : List ℕ) (at : ℕ) where
 
       module _ {j : Joint} (e : kind ≡ T.Joint j) {x : Held} (f : x ≡ held fs (testAt (left - 1) v (at + 1))) where
         joint-by : held fs (testAt left v at) ≡
-            onIs Held.Refused (λ b next. onIs Held.Refused (λ c end. Held.Is (combine j b c) end) (held fs (testAt (left - 1) v next))) x
+            onHeld Held.Refused (λ t next. onHeld Held.Refused (λ u end. Held.May (joint-on j t u) end) (held fs (testAt (left - 1) v next))) x
         joint-by = rw f (held-by (T.Joint j) e ∙ held-joint-of fs j (testAt (left - 1) v (at + 1)) (λ i. testAt (left - 1) v i))
 
         pub held-joint-first : {r : Refusal} → x ≡ Held.Refused r → Held.Refused r ≡ held fs (testAt left v at)
         held-joint-first g = rw (joint-by, g)
 
-        module _ {t : Bool} {next : ℕ} {y : Held} (g : x ≡ Held.Is t next) (h : y ≡ held fs (testAt (left - 1) v next)) where
-          pub held-joint : {u r : Bool} {end : ℕ} → y ≡ Held.Is u end → r ≡ combine j t u → Held.Is r end ≡ held fs (testAt left v at)
+        module _ {t next : ℕ} {y : Held} (g : x ≡ Held.May t next) (h : y ≡ held fs (testAt (left - 1) v next)) where
+          pub held-joint : {u r end : ℕ} → y ≡ Held.May u end → r ≡ joint-on j t u → Held.May r end ≡ held fs (testAt left v at)
           held-joint i w = rw (joint-by, g, ← h, i, w)
 
           pub held-joint-stop : {r : Refusal} → y ≡ Held.Refused r → Held.Refused r ≡ held fs (testAt left v at)
           held-joint-stop i = rw (joint-by, g, ← h, i)
 
       module _ {wanted : Answer} (e : kind ≡ T.Answers wanted) {x : Told} (f : x ≡ told fs (policyAt (left - 1) v (at + 1))) where
-        answers-by : held fs (testAt left v at) ≡ onSaid Held.Refused (λ a end. Held.Is (eqb (number a) (number wanted)) end) x
+        answers-by : held fs (testAt left v at) ≡ onTold Held.Refused (λ p end. Held.May (answers-on wanted p) end) x
         answers-by = rw f (held-by (T.Answers wanted) e ∙ held-answers-of fs wanted (policyAt (left - 1) v (at + 1)))
 
-        pub held-answers : {p : Answer} {r : Bool} {end : ℕ} → x ≡ Told.Said p end → r ≡ eqb (number p) (number wanted) →
-            Held.Is r end ≡ held fs (testAt left v at)
+        pub held-answers : {p r end : ℕ} → x ≡ Told.May p end → r ≡ answers-on wanted p →
+            Held.May r end ≡ held fs (testAt left v at)
         held-answers g w = rw (answers-by, g, w)
 
         pub held-answers-stop : {r : Refusal} → x ≡ Told.Refused r → Held.Refused r ≡ held fs (testAt left v at)

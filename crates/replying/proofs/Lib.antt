@@ -3,3 +3,4 @@ pub mod TableNumbers
 pub mod NodeNumbers
 pub mod VoiceNumbers
 pub mod MergeLaws
+pub mod ChoiceLaws

@@ -19,14 +19,19 @@ Numbers r = Replied (λ (x : Refusal). x) (λ (x : Refusal). x) r
 pub numbers-none : Numbers none
 numbers-none = record { success = λ e. refl; refused = λ e. absurd (e refl); second = λ e. refl; nothing-else = λ e. refl }
 
+-- a refusal by a published number
+abbrev pub Refuses : Refusal → Type 0
+Refuses r = T (published (r .number)) × (r .second ≡ 0)
+
+pub refuses-loud : (r : Refusal) → Refuses r → r .number ≡ 0 → ⊥
+refuses-loud r h e = subst (λ (k : ℕ). T (published k)) e (h .0)
+
+pub refuses-numbers : (r : Refusal) → Refuses r → Numbers r
+refuses-numbers r h =
+    record { success = λ e. absurd (refuses-loud r h e); refused = λ e. h .0; second = λ e. h .1; nothing-else = λ e. refl }
+
 pub numbers-refused : (k p : ℕ) → T (published k) → Numbers (refused k p)
-numbers-refused k p h =
-    record {
-      success = λ e. absurd (subst (λ (k : ℕ). T (published k)) e h);
-      refused = λ e. h;
-      second = λ e. refl;
-      nothing-else = λ e. refl;
-    }
+numbers-refused k p h = refuses-numbers (refused k p) (h, refl)
 
 pub numbers-overlap : (later earlier : ℕ) → Numbers (record { number = OVERLAP; place = later; second = earlier })
 numbers-overlap later earlier =

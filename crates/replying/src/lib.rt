@@ -1,1 +1,2 @@
-// Laws of replies: the numbers of each one, and which merges are accepted. No code stands here.
+// Laws of replies: the numbers of each one, a voice's set held against the reply under a choice, and which merges are accepted. No
+// code stands here.

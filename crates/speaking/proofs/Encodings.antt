@@ -9,9 +9,9 @@ use Rattle.fields.specs.Meaning.{twoBytes, fourBytes, Bytes}
 use Rattle.fields.proofs.Numbers.{bytes-append, two-bytes, four-bytes}
 use Rattle.codes.specs.declared.PolicyKind.the-variants as P
 use Rattle.codes.specs.declared.TestKind.the-variants as T
-use Rattle.policies.specs.Meaning.{Policy, Test, constant, one, two, when, not, joint, comparison, present, answers, PolicyBytes}
-use Rattle.policies.specs.Meaning.{TestBytes, write-constant, write-one, write-two, write-when, write-not, write-joint, write-comparison}
-use Rattle.policies.specs.Meaning.{write-present, write-answers, PolicyFits, TestFits}
+use Rattle.trees.specs.Meaning.{Policy, Test, constant, one, two, when, not, joint, comparison, present, answers, PolicyBytes}
+use Rattle.trees.specs.Meaning.{TestBytes, write-constant, write-one, write-two, write-when, write-not, write-joint, write-comparison}
+use Rattle.trees.specs.Meaning.{write-present, write-answers, PolicyFits, TestFits}
 use Rattle.speaking.proofs.Codes.{oneCode, twoCode, jointCode, comparisonCode, policy-code, test-code, one-low, two-low, joint-low}
 use Rattle.speaking.proofs.Codes.{comparison-low, constant-coded, one-coded, two-coded, when-coded, not-coded, joint-coded}
 use Rattle.speaking.proofs.Codes.{comparison-coded, present-coded, answers-coded}

@@ -18,11 +18,11 @@ use Rattle.codes.specs.declared.PolicyKind.the-variants as P
 use Rattle.codes.specs.declared.TestKind.{TestKind}
 use Rattle.codes.specs.declared.TestKind.the-variants as T
 use Rattle.codes.specs.Meaning.{policyKind, testKind}
-use Rattle.policies.specs.Meaning.{Policy, Test, constant, one, two, when, not, joint, comparison, present, answers, Read, made, refused}
-use Rattle.policies.specs.Meaning.{andThen, comparisonAt, presentAt, policyBy, testBy, policyAt, testAt, PolicyBytes, TestBytes}
-use Rattle.policies.specs.Meaning.{write-constant, write-one, write-two, write-when, write-not, write-joint, write-comparison}
-use Rattle.policies.specs.Meaning.{write-present, write-answers, policyDepth, testDepth, PolicyFits, TestFits}
-use Rattle.policies.proofs.Comparisons.{two-after, four-after}
+use Rattle.trees.specs.Meaning.{Policy, Test, constant, one, two, when, not, joint, comparison, present, answers, Read, made, refused}
+use Rattle.trees.specs.Meaning.{andThen, comparisonAt, presentAt, policyBy, testBy, policyAt, testAt, PolicyBytes, TestBytes}
+use Rattle.trees.specs.Meaning.{write-constant, write-one, write-two, write-when, write-not, write-joint, write-comparison}
+use Rattle.trees.specs.Meaning.{write-present, write-answers, policyDepth, testDepth, PolicyFits, TestFits}
+use Rattle.leaves.proofs.Comparisons.{two-after, four-after}
 use Rattle.speaking.proofs.Codes.{no-turn}
 
 -- What is read is sound in a way, or it is refused with a number.

@@ -14,11 +14,11 @@ use Rattle.codes.specs.declared.PolicyKind.the-variants as P
 use Rattle.codes.specs.declared.TestKind.{TestKind}
 use Rattle.codes.specs.declared.TestKind.the-variants as T
 use Rattle.codes.specs.Meaning.{policyKind, testKind}
-use Rattle.policies.specs.Meaning.{Policy, Test, constant, one, two, when, not, joint, comparison, present, answers, Read, made, andThen}
-use Rattle.policies.specs.Meaning.{comparisonAt, presentAt, policyBy, testBy, policyAt, testAt, PolicyBytes, TestBytes, write-constant}
-use Rattle.policies.specs.Meaning.{write-one, write-two, write-when, write-not, write-joint, write-comparison, write-present}
-use Rattle.policies.specs.Meaning.{write-answers, policyDepth, testDepth}
-use Rattle.policies.proofs.Comparisons.{two-after, four-after}
+use Rattle.trees.specs.Meaning.{Policy, Test, constant, one, two, when, not, joint, comparison, present, answers, Read, made, andThen}
+use Rattle.trees.specs.Meaning.{comparisonAt, presentAt, policyBy, testBy, policyAt, testAt, PolicyBytes, TestBytes, write-constant}
+use Rattle.trees.specs.Meaning.{write-one, write-two, write-when, write-not, write-joint, write-comparison, write-present}
+use Rattle.trees.specs.Meaning.{write-answers, policyDepth, testDepth}
+use Rattle.leaves.proofs.Comparisons.{two-after, four-after}
 
 -- What the bytes from an offset on say of the list.
 module _ (v : List ℕ) (at : ℕ) {xs : List ℕ} (e : drop at v ≡ xs) where

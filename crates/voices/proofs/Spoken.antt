@@ -3,7 +3,6 @@ use Prim.Native.Nat.{ℕ, _≤_, _<_}
 use mathlib.Core.Path.{_≡_, refl, sym, ap, _∙_}
 use mathlib.Core.Bool.{Bool, true, false, cond}
 use mathlib.Core.List.{List}
-use native.Mathlib.Omega.{arith}
 use lib.Dec.{ltb}
 use lib.ListN.{length}
 use borrow.Author.Tests.{lt-ltb, le-ltb}
@@ -11,75 +10,76 @@ use Rattle.refusals.specs.declared.Refusal.{Refusal}
 use Rattle.refusals.specs.Meaning as refusal
 use Rattle.answers.specs.declared.Answer.{Answer}
 use Rattle.answers.specs.declared.Answer.the-variants.{Silent}
-use Rattle.answers.specs.declared.Reply.{Reply}
 use Rattle.notices.specs.declared.Noticed.{Noticed}
 use Rattle.notices.specs.Meaning as notice
 use Rattle.notices.proofs.Found.{Found, readRest-found}
+use Rattle.sets.specs.Meaning.{answersIn, answerSet, meetOf}
+use Rattle.sets.proofs.Handed.{meet-handed}
+use Rattle.trees.specs.Meaning.{Policy, maySay, Read, made, refused, andThen, policyAt}
 use Rattle.policies.specs.declared.Told.{Told}
-use Rattle.policies.specs.declared.Told.the-variants.{Said, Refused}
-use Rattle.policies.specs.Meaning.{Policy, says, compared, Read, made, refused, andThen, told, policyAt}
-use Rattle.voices.specs.Meaning.{readVoice, spoken, speakOf}
+use Rattle.policies.specs.declared.Told.the-variants.{May, Refused}
+use Rattle.policies.specs.Meaning.{told}
+use Rattle.voices.specs.declared.Heard.{Heard}
+use Rattle.voices.specs.Meaning.{readVoice, heard, hearOf}
+
+abbrev unheard : Refusal → Heard
+unheard r = record { refusal = r; set = 0; answer = Silent }
 
 of-notice : (x : notice.Reading) (y : Read Policy) → (notice.noticed x .refusal .number ≡ 0 → ⊥) →
-    record { refusal = notice.noticed x .refusal; answer = Silent } ≡ spoken x y
+    unheard (notice.noticed x .refusal) ≡ heard x y
 of-notice (notice.facts fs) y h = absurd (h refl)
 of-notice (notice.refused r) y h = refl
 
-pub spoken-notice : (n v : List ℕ) (w : Noticed) → w ≡ notice.noticeOf n → (w .refusal .number ≡ 0 → ⊥) →
-    record { refusal = w .refusal; answer = Silent } ≡ speakOf n v
-spoken-notice n v w e h =
-    ap (λ (x : Noticed). record { refusal = x .refusal; answer = Silent }) e
+pub heard-notice : (n v : List ℕ) (w : Noticed) {r : Heard} → w ≡ notice.noticeOf n → (w .refusal .number ≡ 0 → ⊥) →
+    r ≡ unheard (w .refusal) → r ≡ hearOf n v
+heard-notice n v w e h g =
+    g ∙ ap (λ (x : Noticed). unheard (x .refusal)) e
     ∙ of-notice (notice.readFacts n) (readVoice v) (λ z. h (ap (λ (x : Noticed). x .refusal .number) e ∙ z))
 
 -- An accepted notice's facts are those found in it.
 accepted : (n : List ℕ) (x : notice.Reading) (y : Read Policy) → Found 32 n x → notice.noticed x .refusal .number ≡ 0 →
-    spoken (notice.facts (notice.factsIn 32 n)) y ≡ spoken x y
-accepted n (notice.facts fs) y h z = ap (λ (l : List notice.Fact). spoken (notice.facts l) y) h
+    heard (notice.facts (notice.factsIn 32 n)) y ≡ heard x y
+accepted n (notice.facts fs) y h z = ap (λ (l : List notice.Fact). heard (notice.facts l) y) h
 accepted n (notice.refused r) y h z = absurd (h z)
 
--- The reply, from the answer that the root is told.
+-- The reply, from the set that the root is told.
 module _ (fs : List notice.Fact) (v : List ℕ) where
-  unfoldable replied : Told → Reply
-  replied (Said a end) =
-      cond (ltb end (length v)) (record {
-        refusal =
-            refusal.refused refusal.TAIL end;
-        answer = Silent;
-      }) (record { refusal = refusal.none; answer = a })
-  replied (Refused r) = record { refusal = r; answer = Silent }
+  unfoldable replied : Told → Heard
+  replied (May set end) =
+      cond (ltb end (length v)) (unheard (refusal.refused refusal.TAIL end))
+      (record { refusal = refusal.none; set = set; answer = meetOf (answersIn set) })
+  replied (Refused r) = unheard r
 
   replied-told : (x : Read Policy) →
-      spoken (notice.facts fs) (andThen x (λ p end. cond (ltb end (length v)) (refused (refusal.refused refusal.TAIL end)) (made p end))) ≡
+      heard (notice.facts fs) (andThen x (λ p end. cond (ltb end (length v)) (refused (refusal.refused refusal.TAIL end)) (made p end))) ≡
       replied (told fs x)
   unfolding replied told
-  replied-told (made p end) = go (ltb end (length v))
+  replied-told (made p end) = rw (meet-handed (maySay fs p)) (go (ltb end (length v)))
     where
-      go : (b : Bool) → spoken (notice.facts fs) (cond b (refused (refusal.refused refusal.TAIL end)) (made p end)) ≡
-          cond b (record {
-            refusal =
-                refusal.refused refusal.TAIL end;
-            answer = Silent;
-          }) (record { refusal = refusal.none; answer = says fs (compared fs) p })
+      go : (b : Bool) → heard (notice.facts fs) (cond b (refused (refusal.refused refusal.TAIL end)) (made p end)) ≡
+          cond b (unheard (refusal.refused refusal.TAIL end))
+          (record { refusal = refusal.none; set = answerSet (maySay fs p); answer = meetOf (maySay fs p) })
       go true = refl
       go false = refl
   replied-told (refused r) = refl
 
 module _ (n v : List ℕ) (w : Noticed) (e : w ≡ notice.noticeOf n) (z : w .refusal .number ≡ 0)
     {x : Told} (f : x ≡ told (notice.factsIn 32 n) (policyAt 16 v 0)) where
-  onward : replied (notice.factsIn 32 n) v x ≡ speakOf n v
+  onward : replied (notice.factsIn 32 n) v x ≡ hearOf n v
   onward =
       ap (replied (notice.factsIn 32 n) v) f ∙ sym (replied-told (notice.factsIn 32 n) v (policyAt 16 v 0))
       ∙ accepted n (notice.readFacts n) (readVoice v) (readRest-found 32 0 0 n) (sym (ap (λ (x : Noticed). x .refusal .number) e) ∙ z)
 
-  pub spoken-stop : {r : Refusal} → x ≡ Refused r → record { refusal = r; answer = Silent } ≡ speakOf n v
+  pub heard-stop : {s : Refusal} {r : Heard} → x ≡ Refused s → r ≡ unheard s → r ≡ hearOf n v
   unfolding replied
-  spoken-stop g = sym (ap (replied (notice.factsIn 32 n) v) g) ∙ onward
+  heard-stop g h = h ∙ sym (ap (replied (notice.factsIn 32 n) v) g) ∙ onward
 
-  module _ {a : Answer} {end : ℕ} (g : x ≡ Said a end) {r : Refusal} where
-    pub spoken-tail : end < length v → r ≡ refusal.refused refusal.TAIL end → record { refusal = r; answer = Silent } ≡ speakOf n v
+  module _ {set end : ℕ} (g : x ≡ May set end) where
+    pub heard-tail : {s : Refusal} {r : Heard} → end < length v → s ≡ refusal.refused refusal.TAIL end → r ≡ unheard s → r ≡ hearOf n v
     unfolding replied
-    spoken-tail l h = rw (← onward, g, lt-ltb end (length v) l, h)
+    heard-tail l h k = rw (← onward, g, lt-ltb end (length v) l, k, h)
 
-    pub spoken-done : length v ≤ end → r ≡ refusal.none → record { refusal = r; answer = a } ≡ speakOf n v
+    pub heard-done : {s : Refusal} {a : Answer} → length v ≤ end → s ≡ refusal.none → a ≡ meetOf (answersIn set) →
+        record { refusal = s; set = set; answer = a } ≡ hearOf n v
     unfolding replied
-    spoken-done l h = rw (← onward, g, le-ltb end (length v) l, h)
+    heard-done l h k = rw (← onward, g, le-ltb end (length v) l, h, k)

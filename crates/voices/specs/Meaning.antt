@@ -9,7 +9,9 @@ use Rattle.answers.specs.declared.Answer.the-variants.{Silent}
 use Rattle.answers.specs.declared.Reply.{Reply}
 use Rattle.answers.specs.Meaning.{succeed}
 use Rattle.notices.specs.Meaning as notice
-use Rattle.policies.specs.Meaning.{Policy, says, compared, Read, made, refused, andThen, policyAt, policyDepth, PolicyFits}
+use Rattle.sets.specs.Meaning.{answerSet, meetOf}
+use Rattle.trees.specs.Meaning.{Policy, Choice, says, under, maySay, Read, made, refused, andThen, policyAt, policyDepth, PolicyFits}
+use Rattle.voices.specs.declared.Heard.{Heard}
 
 -- "A voice is one policy .. The root is level 1 .. level 17 is NEST. After the root, bytes left are TAIL at the first of them."
 abbrev pub readVoice : List ℕ → Read Policy
@@ -18,14 +20,31 @@ readVoice v =
     (λ p end. cond (ltb end (length v)) (refused (refusal.refused refusal.TAIL end)) (made p end))
 
 -- "The notice is checked before the voice": then the voice's tree answers to the notice's facts.
--- "A refusal returns .. answer silent."
-abbrev pub spoken : notice.Reading → Read Policy → Reply
-spoken (notice.refused r) voice = record { refusal = r; answer = Silent }
-spoken (notice.facts fs) (refused r) = record { refusal = r; answer = Silent }
-spoken (notice.facts fs) (made p end) = succeed (says fs (compared fs) p)
+-- "a voice answers a set of one to four answers .. The column receives the meet of the set." A refusal returns answer silent and
+-- the set number 0.
+abbrev pub heard : notice.Reading → Read Policy → Heard
+heard (notice.refused r) voice = record { refusal = r; set = 0; answer = Silent }
+heard (notice.facts fs) (refused r) = record { refusal = r; set = 0; answer = Silent }
+heard (notice.facts fs) (made p end) = record { refusal = refusal.none; set = answerSet (maySay fs p); answer = meetOf (maySay fs p) }
+
+abbrev pub hearOf : List ℕ → List ℕ → Heard
+hearOf n v = heard (notice.readFacts n) (readVoice v)
+
+-- What the column receives.
+abbrev pub received : Heard → Reply
+received h = record { refusal = h .refusal; answer = h .answer }
 
 abbrev pub speakOf : List ℕ → List ℕ → Reply
-speakOf n v = spoken (notice.readFacts n) (readVoice v)
+speakOf n v = received (hearOf n v)
+
+-- What document 01 replies under a choice of truth for each comparison on an absent fact.
+abbrev pub spokenUnder : Choice → notice.Reading → Read Policy → Reply
+spokenUnder choice (notice.refused r) voice = record { refusal = r; answer = Silent }
+spokenUnder choice (notice.facts fs) (refused r) = record { refusal = r; answer = Silent }
+spokenUnder choice (notice.facts fs) (made p end) = succeed (says fs (under fs choice) p)
+
+abbrev pub speakUnder : Choice → List ℕ → List ℕ → Reply
+speakUnder choice n v = spokenUnder choice (notice.readFacts n) (readVoice v)
 
 -- "level 17 is NEST": at most 16 levels.
 pub record Lawful (p : Policy) : Type 0 where

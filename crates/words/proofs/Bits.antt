@@ -1,10 +1,11 @@
 -- The bits of a word: what and, or and xor do to them, and facts about bits by finite cases.
-use Prim.Native.Nat.{ℕ, zero, suc, _+_, _*_, _/_, _%_, _^_, _<_}
-use mathlib.Core.Path.{_≡_, refl, ap, _∙_}
+use Prim.Native.Nat.{ℕ, zero, suc, _+_, _*_, _/_, _%_, _^_, _<_, max}
+use mathlib.Core.Path.{_≡_, refl, sym, ap, _∙_}
 use mathlib.Core.Logic.{⊎-elim}
 use mathlib.Core.Bool.{Bool, true, false, _&&_}
 use lib.Dec.{eqb}
-use lib.Bits.{bitAnd, bitOr, bitXor, and-shr, or-shr, xor-shr, and-mod, or-mod, xor-mod}
+use lib.Arith.{bin-ind}
+use lib.Bits.{bitAnd, bitOr, bitXor, or-step, and-shr, or-shr, xor-shr, and-mod, or-mod, xor-mod}
 use borrow.Author.Tests.{eqb-true}
 use native.Mathlib.Nat.{mod-lt, zero-lt-suc, eq-or-lt-of-le}
 use native.Mathlib.Omega.{arith}
@@ -43,6 +44,24 @@ pub each-four :
     (x s t v w : ℕ) →
     P (bit x s) (bit x t) (bit x v) (bit x w)
 each-four P h x s t v w = each-two (P (bit x s) (bit x t)) (each-two (λ a b. Both (λ c. Both (P a b c))) h x s t) x v w
+
+-- or, in any grouping
+or-bits : (x y z : ℕ) → x < 2 → y < 2 → z < 2 → max (bitOr x y) z ≡ max x (bitOr y z)
+or-bits x y z i j k = either (P x y) (either (λ y. Both (P x y)) (either (λ x. Both (λ y. Both (P x y))) (search refl) x i) y j) z k
+  where
+    P : ℕ → ℕ → ℕ → Type 0
+    P x y z = max (bitOr x y) z ≡ max x (bitOr y z)
+
+pub or-assoc : (a b c : ℕ) → bitOr (bitOr a b) c ≡ bitOr a (bitOr b c)
+or-assoc =
+    bin-ind (λ a. (b c : ℕ) → bitOr (bitOr a b) c ≡ bitOr a (bitOr b c)) (λ b c. refl)
+    (λ a below b c.
+    or-step (bitOr a b) c
+    ∙ rw (or-shr a b 1, or-mod a b 1, below (b / 2) (c / 2), or-bits (a % 2) (b % 2) (c % 2) (small a) (small b) (small c))
+    (sym (or-step a (bitOr b c) ∙ rw (or-shr b c 1, or-mod b c 1))))
+  where
+    small : (w : ℕ) → w % 2 < 2
+    small w = mod-lt w (zero-lt-suc 1)
 
 -- a test of so many lanes
 unfoldable pub allBelow : ℕ → (ℕ → Bool) → Bool

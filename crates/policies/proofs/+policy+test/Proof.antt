@@ -1,8 +1,7 @@
 use borrow.Author.Needs.{needs}
-use Rattle.policies.proofs.Levels.{told-nest, told-cut, told-constant, told-foreign, told-one, told-one-stop, told-two}
-use Rattle.policies.proofs.Levels.{told-two-stop, told-two-first, told-when, told-when-stop, told-when-first}
-use Rattle.policies.proofs.Levels.{held-nest, held-cut, held-foreign, held-comparison, held-present, held-not, held-not-stop}
-use Rattle.policies.proofs.Levels.{held-joint, held-joint-stop, held-joint-first, held-answers, held-answers-stop}
+use Rattle.policies.proofs.Levels.{told-nest, told-cut, told-constant, told-one, told-one-stop, told-two, told-two-stop, told-two-first}
+use Rattle.policies.proofs.Levels.{told-when, told-when-stop, told-when-first, told-foreign, held-nest, held-cut, held-not, held-not-stop}
+use Rattle.policies.proofs.Levels.{held-joint, held-joint-stop, held-joint-first, held-comparison, held-present, held-answers, held-answers-stop, held-foreign}
 use Prim.Native.Nat.{ℕ, _<_}
 use borrow.Fn.Kinds.{In}
 use borrow.Fn.PlainCycle.{Measures, is, falls, and}
@@ -12,17 +11,18 @@ use Rattle.policies.proofs.+policy+test.Lts-policy as policy-lts
 use Rattle.policies.proofs.test.Reads as test
 use Rattle.policies.proofs.test.Kinds as test-kinds
 use Rattle.policies.proofs.+policy+test.Lts-test as test-lts
-use Rattle.answers.proofs.operators.apply_one.Reads as apply-one-reads
-use Rattle.answers.proofs.operators.apply_two.Reads as apply-two-reads
-use Rattle.refusals.proofs.refused.Reads as refused-reads
-use Rattle.policies.proofs.compared_at.Reads as compared-at-reads
-use Rattle.policies.proofs.is_answer.Reads as is-answer-reads
-use Rattle.policies.proofs.combine.Reads as combine-reads
-use Rattle.policies.proofs.negated.Reads as negated-reads
 use Rattle.codes.proofs.policy_kind.Reads as policy-kind-reads
 use Rattle.codes.proofs.test_kind.Reads as test-kind-reads
-use Rattle.policies.proofs.present_at.Reads as present-at-reads
-use Rattle.policies.proofs.when_held.Reads as when-held-reads
+use Rattle.leaves.proofs.compared_at.Reads as compared-at-reads
+use Rattle.leaves.proofs.present_at.Reads as present-at-reads
+use Rattle.refusals.proofs.refused.Reads as refused-reads
+use Rattle.sets.proofs.apply_one.Reads as apply-one-reads
+use Rattle.sets.proofs.apply_two.Reads as apply-two-reads
+use Rattle.sets.proofs.only.Reads as only-reads
+use Rattle.truths.proofs.combine.Reads as combine-reads
+use Rattle.truths.proofs.is_answer.Reads as is-answer-reads
+use Rattle.truths.proofs.negated.Reads as negated-reads
+use Rattle.truths.proofs.when_held.Reads as when-held-reads
 use Rattle.policies.proofs.+policy+test.{statement}
 use Rattle.policies.proofs.+policy+test.Tie.{close}
 
@@ -50,6 +50,8 @@ policy-claims t = (
   refused-reads.Learnt,
   policy-kind-reads.Asked,
   policy-kind-reads.Learnt,
+  only-reads.Asked,
+  only-reads.Learnt,
   policy-below t,
   policy.Post,
   apply-one-reads.Asked,
@@ -97,6 +99,7 @@ pub +policy+test-spec : {M : Type 1} → statement M
     (λ c. search needs)
     (λ c κs. search needs)
     (λ c. search needs)
+    (λ c κs. search needs)
     (λ c. search needs)
     (λ c. search needs)
     (λ c. search needs)
@@ -132,13 +135,14 @@ pub +policy+test-spec : {M : Type 1} → statement M
     (λ c. search (needs, told-constant))
     (λ c. search (needs, told-one))
     (λ c. search (needs, told-one-stop))
-    (λ c. search (needs, told-two))
+    (λ c. told-two _ _ _ _ (c .before .before .before .before .before .before .before .before .before .before .before .before .before .before .before .if1 .left) (c .before .before .before .before .before .before .before .before .before .before .before .before .before .before .if2 .left) (c .before .before .before .before .before .before .before .before .before .before .before .before .policy-kind .ensures) (c .before .before .before .before .before .before .before .before .before .before .kind3 .given .1)
+    (c .before .before .before .before .before .before .before .before .policy2 .ensures) (c .before .before .before .before .before .before .p2 .given .1) (c .before .before .before .before .policy3 .ensures) (c .before .before .q .given .1) (c .apply-two .ensures))
     (λ c. search (needs, told-two-stop))
     (λ c. search (needs, told-two-first))
     (λ c. search (needs, told-when))
     (λ c. search (needs, told-when-stop))
     (λ c. search (needs, told-when-first))
-    (λ c. search (needs, told-foreign)))
+    (λ c. told-foreign _ _ _ _ (c .before .before .before .before .before .before .if1 .left) (c .before .before .before .before .before .if2 .left) (c .before .before .before .policy-kind .ensures) (c .before .enum-told2 .given .1) (c .refused3 .ensures)))
     (λ t. test-lts.spec (test-claims t) (test-at t) test.Post
     (λ c κs. search needs)
     (λ c. search (needs, held-nest))
@@ -179,7 +183,8 @@ pub +policy+test-spec : {M : Type 1} → statement M
     (λ c κs. search needs)
     (λ c. search (needs, held-not))
     (λ c. search (needs, held-not-stop))
-    (λ c. search (needs, held-joint))
+    (λ c. held-joint _ _ _ _ (c .before .before .before .before .before .before .before .before .before .before .before .before .before .before .before .if1 .left) (c .before .before .before .before .before .before .before .before .before .before .before .before .before .before .if2 .left) (c .before .before .before .before .before .before .before .before .before .before .before .before .test-kind .ensures) (c .before .before .before .before .before .before .before .before .before .before .kind .given .1)
+    (c .before .before .before .before .before .before .before .before .test2 .ensures) (c .before .before .before .before .before .before .t2 .given .1) (c .before .before .before .before .test3 .ensures) (c .before .before .u .given .1) (c .combine .ensures))
     (λ c. search (needs, held-joint-stop))
     (λ c. search (needs, held-joint-first))
     (λ c. search (needs, held-comparison))

@@ -1,0 +1,2 @@
+pub mod Whenever
+pub mod Truths
