@@ -77,6 +77,10 @@ typedef struct {
 /* The number of facts read. */
 typedef struct { uint64_t number, place, second, facts; } carm_noticed;
 
+/* What a voice may answer: `set` has bit a (1, 2, 4, 8) for each possible answer a, so 1 to 15; `answer` is the meet of these,
+ * which is what the voice's column receives. */
+typedef struct { uint64_t number, place, second, set, answer; } carm_heard;
+
 /* The operators. An operand above 3 is VALUE. */
 carm_answer carm_negate(uint8_t p);
 carm_answer carm_turn(uint8_t p);
@@ -111,8 +115,12 @@ carm_growth carm_check_growth(const uint8_t *nodes, size_t nodes_len, uint64_t c
 
 carm_noticed carm_read_notice(const uint8_t *notice, size_t notice_len);
 
-/* The answer of a voice over the facts of a notice. The notice is judged first. */
+/* What a voice's column receives for the facts of a notice. The notice is judged first. A comparison on a fact that the notice
+ * does not have may be true or false; the answer is then the meet of all that the voice may answer. */
 carm_answer carm_speak(const uint8_t *notice, size_t notice_len, const uint8_t *voice, size_t voice_len);
+
+/* The same, with the set of all that the voice may answer. */
+carm_heard carm_speak_set(const uint8_t *notice, size_t notice_len, const uint8_t *voice, size_t voice_len);
 
 #ifdef __cplusplus
 }

@@ -41,9 +41,14 @@ int main(void)
         printf(" with column %" PRIu64 " raised to %s\n", growth.column, words[growth.answer]);
     }
 
-    /* keep, when fact 7 is not 1; the notice has no fact */
+    /* keep, when fact 7 is not 1; an old device's notice has no fact 7 */
     const uint8_t voice[] = { 24, 40, 43, 0, 7, 0, 0, 0, 1, 2 };
     printf("voice: %s\n", words[carm_speak(NULL, 0, voice, sizeof voice).answer]);
+    carm_heard heard = carm_speak_set(NULL, 0, voice, sizeof voice);
+    printf("it may answer:");
+    for (int answer = 0; answer < 4; answer++)
+        if (heard.set >> answer & 1) printf(" %s", words[answer]);
+    printf("\n");
 
     /* the laptop's report merged with the library's */
     carm_situation laptop = { 2, { CARM_KEEP, CARM_SILENT } }, library = { 2, { CARM_SILENT, CARM_BURY } };

@@ -160,9 +160,19 @@ static void speak(void)
     done(voice);
 }
 
+static void speak_set(void)
+{
+    argument facts = next_bytes(), voice = next_bytes();
+    carm_heard r = carm_speak_set(facts.bytes, facts.length, voice.bytes, voice.length);
+    done(facts);
+    done(voice);
+    print_three(r.number, r.place, r.second);
+    printf(" %" PRIu64 " %" PRIu64 "\n", r.set, r.answer);
+}
+
 static const struct { const char *name; void (*call)(void); } calls[] = {
-    { "compile", compile }, { "evaluate", evaluate }, { "merge", merge },
-    { "growth", growth },   { "notice", notice },     { "speak", speak },
+    { "compile", compile }, { "evaluate", evaluate }, { "merge", merge },         { "growth", growth },
+    { "notice", notice },   { "speak", speak },       { "speak_set", speak_set },
 };
 
 static const struct { const char *name; carm_answer (*call)(uint8_t); } ones[] = {

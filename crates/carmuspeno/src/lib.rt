@@ -11,16 +11,18 @@ ghost use Rattle.answers.specs.declared.operators.One.the-variants as one;
 ghost use Rattle.answers.specs.declared.operators.Two.the-variants as two;
 ghost use Rattle.situations.specs.Meaning.{mergeOf};
 ghost use Rattle.notices.specs.Meaning.{noticeOf};
-ghost use Rattle.voices.specs.Meaning.{speakOf};
+ghost use Rattle.voices.specs.Meaning.{speakOf, hearOf};
 ghost use Rattle.compiler.specs.Meaning.{compileOf, writtenOf};
 ghost use Rattle.nodes.specs.Meaning.{evaluateOf};
 ghost use Rattle.growth.specs.Meaning.{growthOf};
 ghost use Rattle.face.specs.Meaning.{answerFace, containedFace, compiledFace, situationBehind, mergedFace, growthFace, noticedFace};
+ghost use Rattle.face.specs.Meaning.{heardFace};
 use answers::operators::One;
 use answers::operators::Two;
 pub use face::CarmAnswer;
 pub use face::CarmCompiled;
 pub use face::CarmGrowth;
+pub use face::CarmHeard;
 pub use face::CarmMerged;
 pub use face::CarmNoticed;
 pub use face::CarmSituation;
@@ -156,9 +158,18 @@ pub extern "C" fn carm_read_notice(notice: &[u8]) -> CarmNoticed
     face::noticed_face(notices::read_notice(notice))
 }
 
+// What the voice's column receives: the meet of the set below.
 #[no_mangle]
 pub extern "C" fn carm_speak(notice: &[u8], voice: &[u8]) -> CarmAnswer
     ensures { λ r. ⌜ r ≡ answerFace (speakOf (now (notice .entry)) (now (voice .entry))) ⌝ }
 {
     face::answer_face(voices::speak(notice, voice))
+}
+
+// The set of all that the voice may answer, and its meet.
+#[no_mangle]
+pub extern "C" fn carm_speak_set(notice: &[u8], voice: &[u8]) -> CarmHeard
+    ensures { λ r. ⌜ r ≡ heardFace (hearOf (now (notice .entry)) (now (voice .entry))) ⌝ }
+{
+    face::heard_face(voices::speak_set(notice, voice))
 }

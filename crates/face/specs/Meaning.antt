@@ -8,12 +8,14 @@ use Rattle.situations.specs.declared.Merged.{Merged}
 use Rattle.notices.specs.declared.Noticed.{Noticed}
 use Rattle.compiler.specs.declared.Compiled.{Compiled}
 use Rattle.growth.specs.declared.Growth.{Growth}
+use Rattle.voices.specs.declared.Heard.{Heard}
 use Rattle.face.specs.declared.CarmAnswer.{CarmAnswer}
 use Rattle.face.specs.declared.CarmCompiled.{CarmCompiled}
 use Rattle.face.specs.declared.CarmSituation.{CarmSituation}
 use Rattle.face.specs.declared.CarmMerged.{CarmMerged}
 use Rattle.face.specs.declared.CarmGrowth.{CarmGrowth}
 use Rattle.face.specs.declared.CarmNoticed.{CarmNoticed}
+use Rattle.face.specs.declared.CarmHeard.{CarmHeard}
 
 -- "Every reply starts with the three numbers of document 01: number (0 is success), place, second."
 abbrev pub answerFace : Reply → CarmAnswer
@@ -73,3 +75,14 @@ growthFace r =
 abbrev pub noticedFace : Noticed → CarmNoticed
 noticedFace r =
     record { number = r .refusal .number; place = r .refusal .place; second = r .refusal .second; facts = r .facts }
+
+-- "set has bit a (1, 2, 4, 8) for each possible answer a, so 1 to 15; answer is its meet. In a refusal both are 0."
+abbrev pub heardFace : Heard → CarmHeard
+heardFace r =
+    record {
+      number = r .refusal .number;
+      place = r .refusal .place;
+      second = r .refusal .second;
+      set = r .set;
+      answer = number (r .answer);
+    }

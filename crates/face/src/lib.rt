@@ -6,7 +6,7 @@
 ghost use mathlib.Core.Path.{_≡_};
 ghost use Rattle.operands.specs.Meaning.{oneOf, twoOf};
 ghost use Rattle.face.specs.Meaning.{answerFace, containedFace, compiledFace, situationFace, situationBehind};
-ghost use Rattle.face.specs.Meaning.{mergedFace, growthFace, noticedFace};
+ghost use Rattle.face.specs.Meaning.{mergedFace, growthFace, noticedFace, heardFace};
 use answers::Reply;
 use answers::operators::One;
 use answers::operators::Two;
@@ -16,6 +16,7 @@ use notices::Noticed;
 use operands::Related;
 use situations::Merged;
 use situations::Situation;
+use voices::Heard;
 
 #[repr(C)]
 pub struct CarmAnswer {
@@ -67,6 +68,16 @@ pub struct CarmNoticed {
     pub place: u64,
     pub second: u64,
     pub facts: u64,
+}
+
+// The set has bit a for each answer a that the voice may give; the answer is its meet.
+#[repr(C)]
+pub struct CarmHeard {
+    pub number: u64,
+    pub place: u64,
+    pub second: u64,
+    pub set: u64,
+    pub answer: u64,
 }
 
 pub fn answer_face(reply: Reply) -> CarmAnswer
@@ -175,5 +186,18 @@ pub fn noticed_face(noticed: Noticed) -> CarmNoticed
         place: noticed.refusal.place as u64,
         second: noticed.refusal.second as u64,
         facts: noticed.facts as u64,
+    }
+}
+
+pub fn heard_face(heard: Heard) -> CarmHeard
+    ensures { λ r. ⌜ r ≡ heardFace heard ⌝ }
+{
+    let answer = heard.answer;
+    CarmHeard {
+        number: heard.refusal.number as u64,
+        place: heard.refusal.place as u64,
+        second: heard.refusal.second as u64,
+        set: heard.set as u64,
+        answer: answers::number(answer) as u64,
     }
 }

@@ -165,6 +165,18 @@ fn speak(operands: &[u8]) {
     writing::answer(carmuspeno::carm_speak(&told[..n], &voice[..v]));
 }
 
+fn speak_set(operands: &[u8]) {
+    let mut told = [0u8; MOST];
+    let mut voice = [0u8; MOST];
+    let n = bytes(word(operands), &mut told);
+    let v = bytes(word(rest(operands)), &mut voice);
+    let reply = carmuspeno::carm_speak_set(&told[..n], &voice[..v]);
+    writing::three(reply.number, reply.place, reply.second);
+    writing::next(reply.set);
+    writing::next(reply.answer);
+    writing::text(b"\n");
+}
+
 // One line.
 pub fn call(line: &[u8]) {
     let name = word(line);
@@ -195,6 +207,9 @@ pub fn call(line: &[u8]) {
     }
     if same(name, b"speak") {
         return speak(operands);
+    }
+    if same(name, b"speak_set") {
+        return speak_set(operands);
     }
     writing::text(b"?\n");
 }

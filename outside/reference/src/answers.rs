@@ -3,7 +3,8 @@
 use crate::refusals::{refuse, Refusal, VALUE};
 use Answer::{Bury, Clash, Keep, Silent};
 
-#[derive(Clone, Copy, PartialEq, Eq, Debug)]
+/// Ordered by their numbers; the orders that mean something are `contained` and `below`.
+#[derive(Clone, Copy, PartialEq, Eq, PartialOrd, Ord, Debug)]
 pub enum Answer {
     Silent,
     Bury,

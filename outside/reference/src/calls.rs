@@ -49,6 +49,14 @@ fn answer_line(reply: Result<Answer, Refusal>) -> String {
     }
 }
 
+/// The set that a voice may answer, and its meet.
+fn heard_line(reply: Result<voices::Set, Refusal>) -> String {
+    match reply {
+        Ok(set) => line(NO_REFUSAL, &format!("{} {}", voices::set_number(&set), voices::meet(&set).number())),
+        Err(refusal) => line(refusal, "0 0"),
+    }
+}
+
 /// The reply to one call.
 pub fn reply(call: &str) -> String {
     let words: Vec<&str> = call.split(' ').collect();
@@ -62,6 +70,7 @@ pub fn reply(call: &str) -> String {
             Err(refusal) => line(refusal, "0"),
         },
         ["speak", notice, voice] => answer_line(voices::speak(&unhex(notice), &unhex(voice))),
+        ["speak_set", notice, voice] => heard_line(voices::speak_set(&unhex(notice), &unhex(voice))),
         [operator, p] => operator_line(operator, [number(p)]),
         [operator, p, q] => operator_line(operator, [number(p), number(q)]),
         [operator, x, p, q] => operator_line(operator, [number(x), number(p), number(q)]),

@@ -1,4 +1,4 @@
-//! An implementation of document 01 that shares nothing with the proved crates but the document.
+//! An implementation of document 01 with request K1 of document 02, sharing nothing with the proved crates but the documents.
 //!
 //! It is written to be read beside the document: orders are searched, not tabulated, a voice is read into a tree
 //! before it is answered, and the growth check evaluates the array once per situation. What it replies to a call is

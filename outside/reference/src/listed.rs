@@ -1,5 +1,5 @@
-//! Calls that are named one by one: the examples of document 01, the operators' grids, every refusal at each place
-//! where it can stand, and inputs at the limits.
+//! Calls that are named one by one: the examples of document 01, the operators' grids on answers and on sets of them, every
+//! refusal at each place where it can stand, and inputs at the limits.
 
 use crate::calls::hex;
 use crate::compile::nodes_of;
@@ -25,6 +25,12 @@ pub fn calls() -> Vec<String> {
         codes(),
         voice_refusals(),
         comparisons(),
+        sets(),
+        operators_on_sets(),
+        tests_on_sets(),
+        absent_facts(),
+        after_presence(),
+        refusals_of_sets(),
         written_out(),
     ]
     .concat()
@@ -52,6 +58,10 @@ fn notice(bytes: &[u8]) -> String {
 
 fn speak(notice: &[u8], voice: &[u8]) -> String {
     format!("speak {} {}", hex(notice), hex(voice))
+}
+
+fn speak_set(notice: &[u8], voice: &[u8]) -> String {
+    format!("speak_set {} {}", hex(notice), hex(voice))
 }
 
 /// The laptop table.
@@ -118,6 +128,7 @@ fn examples() -> Vec<String> {
         evaluate(&[16; 17], &[2]),
         evaluate(&[vec![16; 17], vec![7; 16]].concat(), &[2]),
         speak(&[], &[24, 40, 43, 0, 7, 0, 0, 0, 1, 2]),
+        speak_set(&[], &[24, 40, 43, 0, 7, 0, 0, 0, 1, 2]),
         growth(&nodes, 2),
     ];
     for p in 0..4 {
@@ -530,7 +541,7 @@ fn comparisons() -> Vec<String> {
             }
         }
     }
-    // an absent fact: every comparison is false, and present is too
+    // an absent fact: every comparison may be true or false, and present is false
     for code in [43, 44, 45] {
         calls.push(speak(&[], &[24, code, 0, 0, 0, 0, 0, 0, 2]));
         calls.push(speak(&[], &[24, 40, code, 0, 0, 0, 0, 0, 0, 2]));
@@ -539,6 +550,139 @@ fn comparisons() -> Vec<String> {
     }
     for number in [0, 1, 3, 92, 93, 94] {
         calls.push(speak(&notice_bytes(&rising(32)), &[24, 46, 0, number, 2]));
+    }
+    calls
+}
+
+/// Fact 7 is 1, asked where there is no fact 7 unless said.
+const ABSENT: [u8; 7] = [43, 0, 7, 0, 0, 0, 1];
+
+fn when(test: &[u8], policy: &[u8]) -> Vec<u8> {
+    [&[24], test, policy].concat()
+}
+
+/// A voice that may answer what the set has and nothing else: each answer where its own comparison is true and no earlier
+/// one is, the last where none is. Silent comes last, since priority passes over it.
+fn may_answer(set: u8) -> Vec<u8> {
+    let mut answers = [1, 2, 3, 0].into_iter().filter(|answer| set >> answer & 1 == 1).rev();
+    let last = vec![answers.next().expect("a set of one to four answers")];
+    answers.fold(last, |rest, answer| [&[18], &when(&ABSENT, &[answer])[..], &rest].concat())
+}
+
+/// A test that may have these truths: false, true, both.
+const TRUTHS: [&[u8]; 3] = [&[46, 0, 7], &[40, 46, 0, 7], &ABSENT];
+
+fn sets() -> Vec<String> {
+    let mut calls = Vec::new();
+    for set in 1..=15 {
+        calls.push(speak(&[], &may_answer(set)));
+        calls.push(speak_set(&[], &may_answer(set)));
+        calls.extend(TRUTHS.map(|test| speak_set(&[], &when(test, &may_answer(set)))));
+        // every set in a policy below a test below a policy
+        for code in 48..=51 {
+            calls.push(speak_set(&[], &when(&[&[code], &may_answer(set)[..]].concat(), &[2])));
+            calls.push(speak_set(&[], &when(&[&[40, code], &may_answer(set)[..]].concat(), &[3])));
+        }
+    }
+    calls
+}
+
+/// Each operator on all sets, by its code.
+fn operators_on_sets() -> Vec<String> {
+    let mut calls = Vec::new();
+    for code in [8, 9, 10] {
+        calls.extend((1..=15).map(|p| speak_set(&[], &[&[code], &may_answer(p)[..]].concat())));
+    }
+    for code in [12, 13, 14, 15, 16, 17, 18, 20, 21, 22, 23] {
+        for p in 1..=15 {
+            calls.extend((1..=15).map(|q| speak_set(&[], &[&[code], &may_answer(p)[..], &may_answer(q)].concat())));
+        }
+    }
+    calls
+}
+
+/// Not, and, or of tests that are false, true, or either.
+fn tests_on_sets() -> Vec<String> {
+    let mut calls = Vec::new();
+    for p in TRUTHS {
+        calls.push(speak_set(&[], &when(&[&[40], p].concat(), &[2])));
+        for q in TRUTHS {
+            calls.extend([41, 42].map(|code| speak_set(&[], &when(&[&[code], p, q].concat(), &[2]))));
+            calls.extend([41, 42].map(|code| speak_set(&[], &when(&[&[40, code], p, q].concat(), &[1]))));
+        }
+    }
+    calls
+}
+
+fn absent_facts() -> Vec<String> {
+    let full = notice_bytes(&rising(32));
+    let mut calls = Vec::new();
+    // before the first fact, between two, at the last, behind it; with values that no fact, or every fact, is below
+    for number in [0, 1, 3, 92, 93, 94] {
+        for code in [43, 44, 45] {
+            for value in [0, 31, 255] {
+                calls.push(speak_set(&full, &[24, code, 0, number, value, value, value, value, 2]));
+                calls.push(speak_set(&full[9..], &[24, code, 0, number, 0, 0, 0, value, 1]));
+            }
+        }
+        calls.push(speak_set(&full, &[24, 46, 0, number, 2]));
+        calls.push(speak_set(&full[9..], &[24, 40, 46, 0, number, 2]));
+    }
+    // a comparison on an absent fact beside itself: each goes its own way
+    let (keep_when, keep_when_not) = (when(&ABSENT, &[2]), when(&[&[40], &ABSENT[..]].concat(), &[2]));
+    for code in 12..=18 {
+        calls.push(speak_set(&[], &[&[code], &keep_when[..], &keep_when_not].concat()));
+        calls.push(speak_set(&[], &[&[code], &keep_when[..], &keep_when].concat()));
+    }
+    // as deep as a voice goes: every compared fact absent, two of three, none
+    for (step, first) in [(3, 1), (1, 0), (3, 0)] {
+        let whens = |levels: u8| (0..levels).flat_map(move |level| [24, 44, 0, level * step + first, 0, 0, 0, 0]);
+        for answer in 0..4 {
+            calls.extend([1, 2, 14, 15, 16].map(|levels| speak_set(&full, &whens(levels).chain([answer]).collect::<Vec<_>>())));
+        }
+    }
+    calls
+}
+
+/// A fact compared, then compared only where it is present: absent, with the value asked for, with another.
+fn after_presence() -> Vec<String> {
+    let fact_7 = |value: u32| notice_bytes(&[Fact { number: 7, value }]);
+    let not_equal = [&[40], &ABSENT[..]].concat();
+    let voices = [
+        when(&not_equal, &[2]),
+        when(&[46, 0, 7], &when(&not_equal, &[2])),
+        when(&[&[41, 46, 0, 7], &not_equal[..]].concat(), &[2]),
+        when(&[&[42, 40, 46, 0, 7], &not_equal[..]].concat(), &[2]),
+        [&[18], &when(&[46, 0, 7], &when(&not_equal, &[2]))[..], &[1]].concat(),
+    ];
+    let notices = [vec![], fact_7(1), fact_7(2)];
+    voices.iter().flat_map(|voice| notices.iter().map(|notice| speak_set(notice, voice)).collect::<Vec<_>>()).collect()
+}
+
+/// Every refusal of a notice or a voice, also behind a comparison on an absent fact.
+fn refusals_of_sets() -> Vec<String> {
+    let one = notice_bytes(&rising(1));
+    let two = [&one[..], &notice_bytes(&rising(2))[9..]].concat();
+    let mut calls = Vec::new();
+    for bad in [&[16u8][..], &[16, 0, 6, 0], &[15, 0, 6], &[16, 0, 5], &[&one[..], &one].concat(), &[&two[..], &[16]].concat()] {
+        calls.extend([&[2u8][..], &[], &[255]].map(|voice| speak_set(bad, voice)));
+    }
+    calls.push(speak_set(&notice_bytes(&rising(33)), &[2]));
+    let absent = when(&ABSENT, &[2]);
+    for front in [&[][..], &[15, 2], &[&[15], &absent[..]].concat(), &[&[24, 41], &ABSENT[..], &[50]].concat()] {
+        for end in [&[][..], &[255], &[43], &[24], &[24, 47], &[24, 2], &[24, 46, 0], &[24, 43, 0, 7, 0, 0, 0], &[24, 46, 0, 7]] {
+            calls.push(speak_set(&one, &[front, end].concat()));
+        }
+        for last in [&[2u8][..], &[], &[255]] {
+            calls.extend((12..=16).map(|levels| speak_set(&one, &[front, &vec![8; levels], last].concat())));
+        }
+    }
+    calls.push(speak_set(&one, &[&absent[..], &[0]].concat()));
+    calls.push(speak_set(&one, &[&absent[..], &absent].concat()));
+    // sixteen levels of tests and seventeen
+    for nots in 13..=15 {
+        calls.push(speak_set(&[], &[&[24], &vec![40; nots][..], &ABSENT, &[2]].concat()));
+        calls.push(speak_set(&[], &[&[24], &vec![40; nots][..], &[50, 2, 2]].concat()));
     }
     calls
 }

@@ -59,7 +59,8 @@ pub fn call(random: &mut Random) -> String {
         52..=59 => merge(random, distance),
         60..=71 => growth(random, distance),
         72..=79 => notice(random, distance),
-        _ => speak(random, distance),
+        80..=87 => voice("speak", random, distance),
+        _ => voice("speak_set", random, distance),
     }
 }
 
@@ -277,9 +278,9 @@ fn notice(random: &mut Random, distance: Distance) -> String {
     format!("notice {}", hex(&notice))
 }
 
-fn speak(random: &mut Random, distance: Distance) -> String {
+fn voice(call: &str, random: &mut Random, distance: Distance) -> String {
     let facts = valid::facts(random);
-    let mut notice = valid::notice_bytes(&facts);
+    let mut notice = valid::notice_bytes(&valid::sent(random, &facts));
     let mut voice = valid::voice(random, &facts);
     if distance == Distance::Far && random.one_in(8) {
         let levels = 14 + random.below(6);
@@ -287,5 +288,5 @@ fn speak(random: &mut Random, distance: Distance) -> String {
     } else {
         disturb_one_of(random, [(&mut voice, IN_VOICES), (&mut notice, IN_NOTICES)], distance);
     }
-    format!("speak {} {}", hex(&notice), hex(&voice))
+    format!("{call} {} {}", hex(&notice), hex(&voice))
 }

@@ -140,7 +140,13 @@ pub fn notice_bytes(facts: &[Fact]) -> Vec<u8> {
     facts.iter().flat_map(|fact| field(16, &fact_bytes(fact.number, fact.value))).collect()
 }
 
-/// A voice of at most 16 levels that mostly asks for facts of the notice, with values equal or beside theirs.
+/// What an old device sends of the facts that voices ask for: all of them, some, or none.
+pub fn sent(random: &mut Random, facts: &[Fact]) -> Vec<Fact> {
+    let out_of_four = random.pick(&[0, 1, 2, 4]);
+    facts.iter().copied().filter(|_| random.below(4) < out_of_four).collect()
+}
+
+/// A voice of at most 16 levels that mostly asks for these facts, with values equal or beside theirs.
 pub fn voice(random: &mut Random, facts: &[Fact]) -> Vec<u8> {
     let spine = random.one_in(6);
     let levels = if spine { 1 + random.below(16) } else { 1 + random.below(5) };
@@ -168,7 +174,7 @@ fn policy(random: &mut Random, facts: &[Fact], levels: usize, spine: bool, voice
         voice.push(random.byte(4));
         return;
     }
-    let code = random.pick(&[8, 9, 10, 12, 13, 14, 15, 16, 17, 18, 20, 21, 22, 23, 24, 24, 24, 24]);
+    let code = random.pick(&[8, 9, 10, 12, 13, 14, 15, 16, 17, 18, 20, 21, 22, 23, 24, 24, 24, 24, 24, 24, 24, 24]);
     voice.push(code);
     let goes_on = random.below(2);
     if code < 12 {

@@ -1,8 +1,10 @@
-//! Voices: one policy in prefix form, read in full into a tree, then answered over the facts of a notice.
+//! Voices: one policy in prefix form, read in full into a tree, then answered over the facts of a notice. A comparison on a
+//! fact that is not there may be true or false, so what comes out is a set of answers.
 
 use crate::answers::{self, Answer};
 use crate::notices::{self, look_up, Fact};
 use crate::refusals::{refuse, Refusal, CODE, CUT, NEST, TAIL};
+use std::collections::BTreeSet;
 
 enum Policy {
     Constant(Answer),
@@ -23,15 +25,32 @@ enum Test {
     Answers(Answer, Box<Policy>),
 }
 
-/// The notice is judged before the voice.
+/// The answers that a voice may give.
+pub type Set = BTreeSet<Answer>;
+
+/// What the voice's column receives: the meet of what the voice may answer.
 pub fn speak(notice: &[u8], voice: &[u8]) -> Result<Answer, Refusal> {
+    speak_set(notice, voice).map(|set| meet(&set))
+}
+
+/// What the voice may answer. The notice is judged before the voice.
+pub fn speak_set(notice: &[u8], voice: &[u8]) -> Result<Set, Refusal> {
     let facts = notices::read(notice)?;
     let mut reader = Reader { voice, at: 0 };
     let root = reader.policy(1)?;
     if reader.at < voice.len() {
         return refuse(TAIL, reader.at);
     }
-    Ok(root.answer(&facts))
+    Ok(root.answers(&facts))
+}
+
+pub fn meet(set: &Set) -> Answer {
+    set.iter().copied().reduce(answers::meet).expect("a voice has an answer")
+}
+
+/// The set as a number: bit a for answer a.
+pub fn set_number(set: &Set) -> u8 {
+    set.iter().map(|answer| 1 << answer.number()).sum()
 }
 
 const DEEPEST: usize = 16;
@@ -118,31 +137,50 @@ impl Reader<'_> {
     }
 }
 
+/// What comes of each possible operand.
+fn each<P: Copy, R: Ord>(operator: impl Fn(P) -> R, p: BTreeSet<P>) -> BTreeSet<R> {
+    p.into_iter().map(operator).collect()
+}
+
+/// What comes of every pair of possible operands.
+fn every_pair<P: Copy, R: Ord>(operator: impl Fn(P, P) -> R, p: BTreeSet<P>, q: BTreeSet<P>) -> BTreeSet<R> {
+    p.iter().flat_map(|&p| q.iter().map(move |&q| (p, q))).map(|(p, q)| operator(p, q)).collect()
+}
+
 impl Policy {
-    fn answer(&self, facts: &[Fact]) -> Answer {
+    fn answers(&self, facts: &[Fact]) -> Set {
         match self {
-            Policy::Constant(answer) => *answer,
-            Policy::One(operator, p) => operator(p.answer(facts)),
-            Policy::Two(operator, p, q) => operator(p.answer(facts), q.answer(facts)),
-            Policy::Replace(x, p, q) => answers::replace(*x, p.answer(facts), q.answer(facts)),
-            Policy::When(test, p) if test.holds(facts) => p.answer(facts),
-            Policy::When(..) => Answer::Silent,
+            Policy::Constant(answer) => Set::from([*answer]),
+            Policy::One(operator, p) => each(operator, p.answers(facts)),
+            Policy::Two(operator, p, q) => every_pair(operator, p.answers(facts), q.answers(facts)),
+            Policy::Replace(x, p, q) => every_pair(|p, q| answers::replace(*x, p, q), p.answers(facts), q.answers(facts)),
+            Policy::When(test, p) => {
+                let where_it_is = |truth| if truth { p.answers(facts) } else { Set::from([Answer::Silent]) };
+                test.truths(facts).into_iter().flat_map(where_it_is).collect()
+            }
         }
     }
 }
 
 impl Test {
-    /// A comparison on an absent fact is false.
-    fn holds(&self, facts: &[Fact]) -> bool {
+    fn truths(&self, facts: &[Fact]) -> BTreeSet<bool> {
         match self {
-            Test::Not(test) => !test.holds(facts),
-            Test::And(a, b) => a.holds(facts) && b.holds(facts),
-            Test::Or(a, b) => a.holds(facts) || b.holds(facts),
-            Test::Equal(number, value) => look_up(facts, *number).is_some_and(|found| found == *value),
-            Test::AtLeast(number, value) => look_up(facts, *number).is_some_and(|found| found >= *value),
-            Test::Below(number, value) => look_up(facts, *number).is_some_and(|found| found < *value),
-            Test::Present(number) => look_up(facts, *number).is_some(),
-            Test::Answers(answer, p) => p.answer(facts) == *answer,
+            Test::Not(test) => each(|p: bool| !p, test.truths(facts)),
+            Test::And(a, b) => every_pair(|p, q| p && q, a.truths(facts), b.truths(facts)),
+            Test::Or(a, b) => every_pair(|p, q| p || q, a.truths(facts), b.truths(facts)),
+            Test::Equal(number, value) => compared(facts, *number, |found| found == *value),
+            Test::AtLeast(number, value) => compared(facts, *number, |found| found >= *value),
+            Test::Below(number, value) => compared(facts, *number, |found| found < *value),
+            Test::Present(number) => BTreeSet::from([look_up(facts, *number).is_some()]),
+            Test::Answers(answer, p) => each(|p: Answer| p == *answer, p.answers(facts)),
         }
+    }
+}
+
+/// A comparison on an absent fact may be true or false.
+fn compared(facts: &[Fact], number: u16, test: impl Fn(u32) -> bool) -> BTreeSet<bool> {
+    match look_up(facts, number) {
+        Some(found) => BTreeSet::from([test(found)]),
+        None => BTreeSet::from([false, true]),
     }
 }

@@ -1,14 +1,15 @@
-//! What document 01 says twice, held against itself: by another count, by all pairs, by all situations.
+//! What the documents say twice, held against itself: by another count, by all pairs, by all situations, by all choices.
 
-use reference::answers::{contained, Answer, ALL};
+use reference::answers::{self, contained, Answer, ALL};
 use reference::calls::reply;
 use reference::compile::nodes_of;
 use reference::listed::calls;
 use reference::nodes::run;
+use reference::notices::{look_up, Fact};
 use reference::random::Random;
 use reference::situations::{from_index, index};
 use reference::tables::{self, Table};
-use reference::{growth, valid};
+use reference::{growth, valid, voices};
 use std::collections::BTreeSet;
 
 fn situations(columns: usize) -> Vec<Vec<Answer>> {
@@ -130,6 +131,159 @@ fn base_4_numbers_and_situations_are_the_same_order() {
     assert_eq!(from_index(1, 3), [ALL[0], ALL[0], ALL[1]]);
 }
 
+/// A lawful voice answered by document 01's rules while its bytes are passed, each comparison on an absent fact having the
+/// truth that the next bit of the choice gives it.
+struct Chosen<'a> {
+    voice: &'a [u8],
+    facts: &'a [Fact],
+    choice: u32,
+    /// How many comparisons met an absent fact.
+    absent: u32,
+    /// Which facts were asked for by `present`.
+    presence: BTreeSet<u16>,
+}
+
+impl Chosen<'_> {
+    fn bytes<const N: usize>(&mut self) -> [u8; N] {
+        let (bytes, rest) = self.voice.split_first_chunk().expect("a lawful voice");
+        self.voice = rest;
+        *bytes
+    }
+
+    fn policy(&mut self) -> Answer {
+        let [code] = self.bytes();
+        match code {
+            0..=3 => ALL[usize::from(code)],
+            8 => answers::negate(self.policy()),
+            9 => answers::floor(self.policy()),
+            10 => answers::ceiling(self.policy()),
+            12 => answers::truth_meet(self.policy(), self.policy()),
+            13 => answers::truth_join(self.policy(), self.policy()),
+            14 => answers::meet(self.policy(), self.policy()),
+            15 => answers::join(self.policy(), self.policy()),
+            16 => answers::implication(self.policy(), self.policy()),
+            17 => answers::guard(self.policy(), self.policy()),
+            18 => answers::priority(self.policy(), self.policy()),
+            20..=23 => answers::replace(ALL[usize::from(code - 20)], self.policy(), self.policy()),
+            24 => match (self.test(), self.policy()) {
+                (true, p) => p,
+                (false, _) => Answer::Silent,
+            },
+            _ => panic!("not a policy: {code}"),
+        }
+    }
+
+    fn test(&mut self) -> bool {
+        let [code] = self.bytes();
+        match code {
+            40 => !self.test(),
+            41 => self.test() & self.test(),
+            42 => self.test() | self.test(),
+            43 => self.compared(|found, value| found == value),
+            44 => self.compared(|found, value| found >= value),
+            45 => self.compared(|found, value| found < value),
+            46 => self.present(),
+            48..=51 => self.policy() == ALL[usize::from(code - 48)],
+            _ => panic!("not a test: {code}"),
+        }
+    }
+
+    fn present(&mut self) -> bool {
+        let number = u16::from_be_bytes(self.bytes());
+        self.presence.insert(number);
+        look_up(self.facts, number).is_some()
+    }
+
+    fn compared(&mut self, test: fn(u32, u32) -> bool) -> bool {
+        let number = u16::from_be_bytes(self.bytes());
+        let value = u32::from_be_bytes(self.bytes());
+        match look_up(self.facts, number) {
+            Some(found) => test(found, value),
+            None => {
+                let truth = self.choice >> self.absent & 1 == 1;
+                self.absent += 1;
+                truth
+            }
+        }
+    }
+}
+
+/// The answer under a choice, and what was met on the way.
+fn answer_under<'a>(choice: u32, facts: &'a [Fact], voice: &'a [u8]) -> (Answer, Chosen<'a>) {
+    let mut chosen = Chosen { voice, facts, choice, absent: 0, presence: BTreeSet::new() };
+    (chosen.policy(), chosen)
+}
+
+/// A voice of few levels, the facts that it mostly asks for, and those of them that a device sends.
+fn asked_and_sent(random: &mut Random) -> (Vec<u8>, Vec<Fact>, Vec<Fact>) {
+    let asked = valid::facts(random);
+    let levels = 2 + random.below(6);
+    let spine = random.one_in(4);
+    let voice = valid::voice_of(random, &asked, levels, spine);
+    let sent = valid::sent(random, &asked);
+    (voice, asked, sent)
+}
+
+/// Whether this is the greatest answer contained in all of the set.
+fn is_meet(answer: Answer, set: &BTreeSet<Answer>) -> bool {
+    let in_all = |p: Answer| set.iter().all(|&q| contained(p, q));
+    in_all(answer) && ALL.into_iter().all(|p| !in_all(p) || contained(p, answer))
+}
+
+#[test]
+fn a_voice_may_answer_what_some_choice_answers() {
+    let mut random = Random::new(6);
+    let (mut met, mut uncertain, mut sets) = (0, 0, BTreeSet::new());
+    for _ in 0..40_000 {
+        let (voice, _, facts) = asked_and_sent(&mut random);
+        let absent = answer_under(0, &facts, &voice).1.absent;
+        if absent > 12 {
+            continue;
+        }
+        let some_choice: BTreeSet<Answer> = (0..1 << absent).map(|choice| answer_under(choice, &facts, &voice).0).collect();
+        let notice = valid::notice_bytes(&facts);
+        assert_eq!(voices::speak_set(&notice, &voice).as_ref(), Ok(&some_choice), "{voice:?} to {facts:?}");
+        assert!(is_meet(voices::speak(&notice, &voice).unwrap(), &some_choice), "{voice:?} to {facts:?}");
+        met += usize::from(absent > 0);
+        uncertain += usize::from(some_choice.len() > 1);
+        sets.insert(some_choice);
+    }
+    assert!(met > 15_000 && uncertain > 4000);
+    assert_eq!(sets.len(), 15);
+}
+
+/// Unless the voice asks whether it is there, a further fact only takes answers away, and the column's only grows.
+#[test]
+fn with_more_facts_a_voice_may_answer_less() {
+    let mut random = Random::new(7);
+    let (mut fewer, mut grown) = (0, 0);
+    for _ in 0..40_000 {
+        let (voice, all, sent) = asked_and_sent(&mut random);
+        let presence = answer_under(0, &all, &voice).1.presence;
+        if all.iter().any(|fact| presence.contains(&fact.number) && !sent.contains(fact)) {
+            continue;
+        }
+        let [before, after] = [&sent, &all].map(|facts| voices::speak_set(&valid::notice_bytes(facts), &voice).unwrap());
+        assert!(after.is_subset(&before), "{voice:?} to {sent:?}, then {all:?}");
+        assert!(contained(voices::meet(&before), voices::meet(&after)), "{voice:?} to {sent:?}, then {all:?}");
+        fewer += usize::from(after != before);
+        grown += usize::from(voices::meet(&after) != voices::meet(&before));
+    }
+    assert!(fewer > 1000 && grown > 500, "{fewer} {grown}");
+}
+
+#[test]
+fn every_set_is_among_the_named_calls() {
+    let mut sets = BTreeSet::new();
+    for call in calls().iter().filter(|call| call.starts_with("speak_set")) {
+        let reply = reply(call);
+        let numbers: Vec<u64> = reply.split(' ').map(|word| word.parse().unwrap()).collect();
+        assert_eq!((numbers[0] == 0, numbers.len()), (numbers[3] != 0, 5), "{call}");
+        sets.insert(numbers[3]);
+    }
+    assert_eq!(sets, (0..=15).collect());
+}
+
 /// The refusal numbers that the named calls bring out, by the name of the call.
 #[test]
 fn every_refusal_is_among_the_named_calls() {
@@ -147,4 +301,5 @@ fn every_refusal_is_among_the_named_calls() {
     assert_eq!(of("merge"), [0, 14]);
     assert_eq!(of("notice"), [0, 1, 3, 4, 20, 21]);
     assert_eq!(of("speak"), [0, 1, 3, 4, 16, 17, 18, 19, 20, 21]);
+    assert_eq!(of("speak_set"), [0, 1, 3, 4, 16, 17, 18, 19, 20, 21]);
 }

@@ -1,4 +1,4 @@
-//! The checked examples of document 01, by their numbers.
+//! The checked examples of document 01, by their numbers, example 16 as request K1 has it.
 
 use reference::answers::{from_bytes, implication, join, replace, truth_meet, turn, Answer};
 use reference::compile::{compile, Compiled};
@@ -70,7 +70,27 @@ fn example_15_a_full_stack() {
 
 #[test]
 fn example_16_a_voice() {
-    assert_eq!(voices::speak(&[], &[24, 40, 43, 0, 7, 0, 0, 0, 1, 2]), Ok(answer(2)));
+    let voice = [24, 40, 43, 0, 7, 0, 0, 0, 1, 2];
+    assert_eq!(voices::speak(&[], &voice), Ok(answer(0)));
+    assert_eq!(voices::speak_set(&[], &voice), Ok([0, 2].map(answer).into()));
+}
+
+#[test]
+fn example_16_where_the_fact_is_there() {
+    let voice = [24, 40, 43, 0, 7, 0, 0, 0, 1, 2];
+    for (value, said) in [(0, 2), (1, 0), (2, 2)] {
+        let notice = [16, 0, 6, 0, 7, 0, 0, 0, value];
+        assert_eq!(voices::speak(&notice, &voice), Ok(answer(said)));
+        assert_eq!(voices::speak_set(&notice, &voice), Ok([answer(said)].into()));
+    }
+}
+
+#[test]
+fn equal_comparisons_may_go_different_ways() {
+    // keep when c, joined with keep when not c
+    let voice = [15, 24, 43, 0, 7, 0, 0, 0, 1, 2, 24, 40, 43, 0, 7, 0, 0, 0, 1, 2];
+    assert_eq!(voices::speak_set(&[], &voice), Ok([0, 2].map(answer).into()));
+    assert_eq!(voices::speak(&[], &voice), Ok(answer(0)));
 }
 
 #[test]
