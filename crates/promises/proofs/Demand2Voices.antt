@@ -13,7 +13,8 @@ use Rattle.running.proofs.Places.{run-places}
 use Rattle.answers.specs.Meaning.{succeed}
 use Rattle.fields.specs.Meaning.{Bytes}
 use Rattle.notices.specs.Meaning as notice
-use Rattle.policies.specs.Meaning.{Policy, says, compared, PolicyBytes}
+use Rattle.sets.specs.Meaning.{answerSet, meetOf}
+use Rattle.trees.specs.Meaning.{Policy, maySay, PolicyBytes}
 use Rattle.voices.specs.Meaning as voice
 use Rattle.speaking.proofs.Notices as notices
 use Rattle.speaking.proofs.Voices as voices
@@ -72,8 +73,13 @@ voice-encoded p h = voices.encoded p (h .fits)
 pub encoding-only : (p : Policy) (v w : List ℕ) → PolicyBytes p v → PolicyBytes p w → v ≡ w
 encoding-only = voices.encoding-only
 
--- The answer to an accepted notice and voice is the tree's meaning at the facts, operator by operator; a comparison is
--- false where its fact is absent.
+-- The reply to an accepted notice and voice is the set of what the tree may say of the facts, operator by operator on every pair of
+-- possible operands, and its meet ..
 pub speaks-as-published : (fs : List notice.Fact) (p : Policy) (v : List ℕ) → notice.Lawful fs → voice.Lawful p → PolicyBytes p v →
-    voice.speakOf (notice.bytesOf fs) v ≡ succeed (says fs (compared fs) p)
+    voice.hearOf (notice.bytesOf fs) v ≡ record { refusal = none; set = answerSet (maySay fs p); answer = meetOf (maySay fs p) }
 speaks-as-published fs p v h i b = voices.speak-lawful fs p v h (i .levels) b
+
+-- .. which is what the column receives.
+pub column-as-published : (fs : List notice.Fact) (p : Policy) (v : List ℕ) → notice.Lawful fs → voice.Lawful p → PolicyBytes p v →
+    voice.speakOf (notice.bytesOf fs) v ≡ succeed (meetOf (maySay fs p))
+column-as-published fs p v h i b = ap voice.received (speaks-as-published fs p v h i b)

@@ -1,4 +1,4 @@
--- Each public function's contract determines what it returns: no two different results satisfy it. Here: answers, situations, speakers.
+-- Each public function's contract determines what it returns: no two different results satisfy it. Here: answers and situations.
 -- `Post` is the contract itself, as the checker reads it off the source.
 use mathlib.Core.Path.{sym, _∙_}
 use Rattle.promises.specs.Meaning.{Determined}
@@ -39,14 +39,6 @@ use Rattle.base4.proofs.weight as base4-weight
 use Rattle.base4.proofs.digit as base4-digit
 use Rattle.base4.proofs.situation_at as base4-situation-at
 use Rattle.base4.proofs.index as base4-index
-use Rattle.notices.proofs.read_notice as notices-read-notice
-use Rattle.notices.proofs.look_up as notices-look-up
-use Rattle.notices.proofs.compare as notices-compare
-use Rattle.notices.proofs.present as notices-present
-use Rattle.codes.proofs.policy_kind as codes-policy-kind
-use Rattle.codes.proofs.test_kind as codes-test-kind
-use Rattle.policies.proofs.policy as policies-policy
-use Rattle.voices.proofs.speak as voices-speak
 
 pub refusals-none-determined : Determined refusals-none.Kinds.ps refusals-none.Kinds.r refusals-none.Reads.Post
 refusals-none-determined = record { result = λ κs a x y s t p q. p ∙ sym q }
@@ -158,27 +150,3 @@ base4-situation-at-determined = record { result = λ κs a x y s t p q. p ∙ sy
 
 pub base4-index-determined : Determined base4-index.Kinds.ps base4-index.Kinds.r base4-index.Reads.Post
 base4-index-determined = record { result = λ κs a x y s t p q. p ∙ sym q }
-
-pub notices-read-notice-determined : Determined notices-read-notice.Kinds.ps notices-read-notice.Kinds.r notices-read-notice.Reads.Post
-notices-read-notice-determined = record { result = λ κs a x y s t p q. p ∙ sym q }
-
-pub notices-look-up-determined : Determined notices-look-up.Kinds.ps notices-look-up.Kinds.r notices-look-up.Reads.Post
-notices-look-up-determined = record { result = λ κs a x y s t p q. p ∙ sym q }
-
-pub notices-compare-determined : Determined notices-compare.Kinds.ps notices-compare.Kinds.r notices-compare.Reads.Post
-notices-compare-determined = record { result = λ κs a x y s t p q. p ∙ sym q }
-
-pub notices-present-determined : Determined notices-present.Kinds.ps notices-present.Kinds.r notices-present.Reads.Post
-notices-present-determined = record { result = λ κs a x y s t p q. p ∙ sym q }
-
-pub codes-policy-kind-determined : Determined codes-policy-kind.Kinds.ps codes-policy-kind.Kinds.r codes-policy-kind.Reads.Post
-codes-policy-kind-determined = record { result = λ κs a x y s t p q. p ∙ sym q }
-
-pub codes-test-kind-determined : Determined codes-test-kind.Kinds.ps codes-test-kind.Kinds.r codes-test-kind.Reads.Post
-codes-test-kind-determined = record { result = λ κs a x y s t p q. p ∙ sym q }
-
-pub policies-policy-determined : Determined policies-policy.Kinds.ps policies-policy.Kinds.r policies-policy.Reads.Post
-policies-policy-determined = record { result = λ κs a x y s t p q. p ∙ sym q }
-
-pub voices-speak-determined : Determined voices-speak.Kinds.ps voices-speak.Kinds.r voices-speak.Reads.Post
-voices-speak-determined = record { result = λ κs a x y s t p q. p ∙ sym q }

@@ -40,6 +40,7 @@ use Rattle.face.proofs.situation_behind as face-situation-behind
 use Rattle.face.proofs.merged_face as face-merged
 use Rattle.face.proofs.growth_face as face-growth
 use Rattle.face.proofs.noticed_face as face-noticed
+use Rattle.face.proofs.heard_face as face-heard
 
 pub rows-row-count-determined : Determined rows-row-count.Kinds.ps rows-row-count.Kinds.r rows-row-count.Reads.Post
 rows-row-count-determined = record { result = λ κs a x y s t p q. p ∙ sym q }
@@ -151,3 +152,6 @@ face-growth-determined = record { result = λ κs a x y s t p q. p ∙ sym q }
 
 pub face-noticed-determined : Determined face-noticed.Kinds.ps face-noticed.Kinds.r face-noticed.Reads.Post
 face-noticed-determined = record { result = λ κs a x y s t p q. p ∙ sym q }
+
+pub face-heard-determined : Determined face-heard.Kinds.ps face-heard.Kinds.r face-heard.Reads.Post
+face-heard-determined = record { result = λ κs a x y s t p q. p ∙ sym q }

@@ -19,6 +19,7 @@ use Rattle.carmuspeno.proofs.carm_evaluate as evaluate
 use Rattle.carmuspeno.proofs.carm_merge as merge
 use Rattle.carmuspeno.proofs.carm_read_notice as read-notice
 use Rattle.carmuspeno.proofs.carm_speak as speak
+use Rattle.carmuspeno.proofs.carm_speak_set as speak-set
 use Rattle.carmuspeno.proofs.carm_check_growth as check-growth
 use Rattle.carmuspeno.proofs.carm_compile as compile
 
@@ -123,6 +124,12 @@ carm-speak-determined = record { result = λ κs a x y s t p q. p ∙ sym q }
 
 pub carm-speak-asks-nothing : AsksNothing speak.Kinds.ps speak.Reads.Pre
 carm-speak-asks-nothing = record { met = λ κs a. tt }
+
+pub carm-speak-set-determined : Determined speak-set.Kinds.ps speak-set.Kinds.r speak-set.Reads.Post
+carm-speak-set-determined = record { result = λ κs a x y s t p q. p ∙ sym q }
+
+pub carm-speak-set-asks-nothing : AsksNothing speak-set.Kinds.ps speak-set.Reads.Pre
+carm-speak-set-asks-nothing = record { met = λ κs a. tt }
 
 pub carm-check-growth-determined : Determined check-growth.Kinds.ps check-growth.Kinds.r check-growth.Reads.Post
 carm-check-growth-determined = record { result = λ κs a x y s t p q. p ∙ sym q }

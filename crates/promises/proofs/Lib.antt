@@ -1,11 +1,13 @@
 pub mod Demand1
 pub mod Demand2Tables
 pub mod Demand2Voices
+pub mod Absent
 pub mod Demand3
 pub mod Demand3Merging
 pub mod Demand3Printed
 pub mod Operators
 pub mod Determined
+pub mod DeterminedVoices
 pub mod DeterminedTables
 pub mod DeterminedWords
 pub mod Face
