@@ -92,6 +92,13 @@ static void nested_whens(void)
     voice[voice_len++] = 2;
 }
 
+/* the same with other facts, none of which the notice has */
+static void absent_whens(void)
+{
+    nested_whens();
+    for (int level = 0; level < 15; level++) voice[8 * level + 3]++;
+}
+
 /* sixteen levels of operators over constants, and no notice */
 static void nested_operators(void)
 {
@@ -99,6 +106,19 @@ static void nested_operators(void)
     for (int level = 0; level < 15; level++) {
         voice[voice_len++] = codes[level % 5];
         voice[voice_len++] = (uint8_t)(level % 4);
+    }
+    voice[voice_len++] = 2;
+}
+
+/* sixteen levels of the same operators over constants, each under a `when` whose fact the notice does not have */
+static void absent_operators(void)
+{
+    static const uint8_t codes[] = { 15, 18, 12, 14, 13 };
+    full_notice();
+    for (int level = 0; level < 14; level++) {
+        const uint8_t operator[] = { codes[level % 5], 24, 44, 0, (uint8_t)(6 * level + 1), 0, 0, 0, 0, (uint8_t)(level % 3 + 1) };
+        memcpy(voice + voice_len, operator, sizeof operator);
+        voice_len += sizeof operator;
     }
     voice[voice_len++] = 2;
 }
@@ -155,6 +175,13 @@ static void do_speak(long repetitions)
     SAY("%" PRIu64 " %" PRIu64 " %" PRIu64 "\n", r.number, r.place, r.answer);
 }
 
+static void do_speak_set(long repetitions)
+{
+    carm_heard r = { 0 };
+    while (repetitions--) r = carm_speak_set(notice, notice_len, voice, voice_len);
+    SAY("%" PRIu64 " %" PRIu64 " %" PRIu64 " %" PRIu64 "\n", r.number, r.place, r.set, r.answer);
+}
+
 static void nothing(void) {}
 
 static void do_merge(long repetitions)
@@ -180,7 +207,10 @@ static const struct {
     { "growth-largest", "check_growth", "largest table: no", 1, make_largest_nodes, growth_six },
     { "notice-full", "read_notice", "32 facts", 500, full_notice, do_notice },
     { "speak-whens", "speak", "16 levels of when, 32 facts", 200, nested_whens, do_speak },
+    { "speak-absent-whens", "speak", "the same, every compared fact absent", 200, absent_whens, do_speak },
     { "speak-operators", "speak", "16 levels of operators, no fact", 500, nested_operators, do_speak },
+    { "speak-absent-operators", "speak", "16 levels of operators, 32 facts, every compared fact absent", 200, absent_operators, do_speak },
+    { "speak-set-whens", "speak_set", "16 levels of when, 32 facts", 200, nested_whens, do_speak_set },
     { "merge-six", "merge", "six columns", 5000, nothing, do_merge },
 };
 

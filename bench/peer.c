@@ -6,7 +6,8 @@
  * GROWTH_BY_PLANES makes the growth check keep 64 situations to a word; without it, it evaluates once per situation.
  * NODE_BY_NODE beside it makes it do each node in all words before the next one; without it, it goes word by word.
  * EVALUATE_FASTER makes the evaluator the fastest one in C that we know (it takes labels as values, as gcc and clang have
- * them); without it, it is a switch over an array. */
+ * them); without it, it is a switch over an array.
+ * LOOK_UP_BY_HALVES makes voices find a fact by halves; without it, they go through the facts one by one. */
 #include <string.h>
 
 #include "carmuspeno.h"
@@ -604,11 +605,86 @@ static unsigned refuse(speaker *s, unsigned number, size_t place)
     return 0;
 }
 
+#ifdef LOOK_UP_BY_HALVES
+
+static const uint8_t *look_up(const speaker *s, unsigned number)
+{
+    const uint8_t *fact = s->notice;
+    size_t left = s->notice_len / FACT_FIELD;
+    if (!left) return NULL;
+    while (left > 1) {
+        size_t half = left / 2;
+        if (two_bytes(fact + FACT_FIELD * half + 3) <= number) fact += FACT_FIELD * half;
+        left -= half;
+    }
+    return two_bytes(fact + 3) == number ? fact + 5 : NULL;
+}
+
+#else
+
 static const uint8_t *look_up(const speaker *s, unsigned number)
 {
     for (size_t at = 0; at < s->notice_len; at += FACT_FIELD)
         if (two_bytes(s->notice + at + 3) == number) return s->notice + at + 5;
     return NULL;
+}
+
+#endif
+
+/* What a policy may answer: the answer itself where only one is possible, else OPEN and a bit for each possible answer. */
+enum { OPEN = 16 };
+
+static inline unsigned set_of(unsigned p) { return p < OPEN ? 1u << p : p - OPEN; }
+static inline unsigned of_set(unsigned set) { return set & (set - 1) ? OPEN | set : (unsigned)__builtin_ctz(set); }
+
+/* bury is said by all where neither silent nor keep is possible, keep where neither silent nor bury is */
+static inline unsigned met(unsigned p) { return p < OPEN ? p : (unsigned)!(p & 5) | (unsigned)!(p & 3) << 1; }
+
+static inline unsigned one(unsigned code, unsigned p)
+{
+    return code == 8 ? negated(p) : code == 9 ? floored(p) : ceiled(p);
+}
+
+static inline unsigned two(unsigned code, unsigned p, unsigned q)
+{
+    switch (code) {
+    case 12: return truth_met(p, q);
+    case 13: return truth_joined(p, q);
+    case 14: return p & q;
+    case 15: return p | q;
+    case 16: return holds(p) ? q : 2;
+    case 17: return holds(p) ? q : 0;
+    case 18: return p ? p : q;
+    default: return p == code - 20 ? q : p;
+    }
+}
+
+/* an operator on each possible operand; out of line, as the next one, since policy is shorter without them */
+static __attribute__((noinline)) unsigned each(unsigned code, unsigned p)
+{
+    unsigned set = 0;
+    for (unsigned left = set_of(p); left; left &= left - 1) set |= 1u << one(code, (unsigned)__builtin_ctz(left));
+    return of_set(set);
+}
+
+/* an operator on every pair of possible operands */
+static __attribute__((noinline)) unsigned every_pair(unsigned code, unsigned p, unsigned q)
+{
+    unsigned set = 0, second = set_of(q);
+    for (unsigned left = set_of(p); left; left &= left - 1)
+        for (unsigned right = second; right; right &= right - 1)
+            set |= 1u << two(code, (unsigned)__builtin_ctz(left), (unsigned)__builtin_ctz(right));
+    return of_set(set);
+}
+
+/* What a test may be: the bit 1 for false, 2 for true; 3 for either. So not, and, or are the operators of the truth order. */
+enum { FALSE = 1, TRUE = 2, EITHER = 3 };
+
+static inline unsigned sure(int truth) { return truth ? TRUE : FALSE; }
+
+static inline unsigned when(unsigned truth, unsigned p)
+{
+    return truth == TRUE ? p : truth == FALSE ? 0 : of_set(set_of(p) | 1);
 }
 
 static unsigned test(speaker *s, unsigned level);
@@ -625,22 +701,11 @@ static unsigned policy(speaker *s, unsigned level)
     if (code < 8 || code > 24 || code == 11 || code == 19) return refuse(s, CODE, at);
     p = code == 24 ? test(s, level + 1) : policy(s, level + 1);
     if (s->number) return 0;
-    if (code == 8) return negated(p);
-    if (code == 9) return floored(p);
-    if (code == 10) return ceiled(p);
+    if (code <= 10) return p < OPEN ? one(code, p) : each(code, p);
     q = policy(s, level + 1);
     if (s->number) return 0;
-    switch (code) {
-    case 12: return truth_met(p, q);
-    case 13: return truth_joined(p, q);
-    case 14: return p & q;
-    case 15: return p | q;
-    case 16: return holds(p) ? q : 2;
-    case 17: return holds(p) ? q : 0;
-    case 18: return p ? p : q;
-    case 24: return p ? q : 0;
-    default: return p == code - 20 ? q : p;
-    }
+    if (code == 24) return when(p, q);
+    return (p | q) < OPEN ? two(code, p, q) : every_pair(code, p, q);
 }
 
 static unsigned compare(speaker *s, unsigned code, size_t at)
@@ -649,9 +714,9 @@ static unsigned compare(speaker *s, unsigned code, size_t at)
     const uint8_t *fact = look_up(s, two_bytes(s->voice + s->at));
     uint32_t value = four_bytes(s->voice + s->at + 2);
     s->at += 6;
-    if (!fact) return 0;
-    if (code == 43) return four_bytes(fact) == value;
-    return (four_bytes(fact) >= value) == (code == 44);
+    if (!fact) return EITHER;
+    if (code == 43) return sure(four_bytes(fact) == value);
+    return sure((four_bytes(fact) >= value) == (code == 44));
 }
 
 static unsigned test(speaker *s, unsigned level)
@@ -659,36 +724,44 @@ static unsigned test(speaker *s, unsigned level)
     size_t at = s->at;
     if (level > MOST_LEVELS) return refuse(s, NEST, at);
     if (at == s->voice_len) return refuse(s, CUT, at);
-    unsigned code = s->voice[at], p, q;
+    unsigned code = s->voice[at], p, q, asked;
     s->at++;
     switch (code) {
     case 40:
-        return !test(s, level + 1);
+        return negated(test(s, level + 1));
     case 41: case 42:
         p = test(s, level + 1);
         if (s->number) return 0;
         q = test(s, level + 1);
-        return code == 41 ? p & q : p | q;
+        return code == 41 ? truth_met(p, q) : truth_joined(p, q);
     case 43: case 44: case 45:
         return compare(s, code, at);
     case 46:
         if (s->voice_len - s->at < 2) return refuse(s, CUT, at);
         s->at += 2;
-        return look_up(s, two_bytes(s->voice + s->at - 2)) != NULL;
+        return sure(look_up(s, two_bytes(s->voice + s->at - 2)) != NULL);
     case 48: case 49: case 50: case 51:
-        return policy(s, level + 1) == code - 48;
+        p = set_of(policy(s, level + 1));
+        asked = 1u << (code - 48);
+        return (p & asked ? TRUE : 0) | (p & ~asked ? FALSE : 0);
     default:
         return refuse(s, CODE, at);
     }
 }
 
-carm_answer carm_speak(const uint8_t *notice, size_t notice_len, const uint8_t *voice, size_t voice_len)
+carm_heard carm_speak_set(const uint8_t *notice, size_t notice_len, const uint8_t *voice, size_t voice_len)
 {
     carm_noticed noticed = carm_read_notice(notice, notice_len);
-    if (noticed.number) return refused(noticed.number, noticed.place);
+    if (noticed.number) return (carm_heard){ noticed.number, noticed.place, 0, 0, 0 };
     speaker s = { .notice = notice, .notice_len = notice_len, .voice = voice, .voice_len = voice_len };
-    unsigned answer = policy(&s, 1);
+    unsigned p = policy(&s, 1);
     if (!s.number && s.at < voice_len) refuse(&s, TAIL, s.at);
-    if (s.number) return refused(s.number, s.place);
-    return answered(answer);
+    if (s.number) return (carm_heard){ s.number, s.place, 0, 0, 0 };
+    return (carm_heard){ 0, 0, 0, set_of(p), met(p) };
+}
+
+carm_answer carm_speak(const uint8_t *notice, size_t notice_len, const uint8_t *voice, size_t voice_len)
+{
+    carm_heard heard = carm_speak_set(notice, notice_len, voice, voice_len);
+    return (carm_answer){ heard.number, heard.place, 0, heard.answer };
 }
