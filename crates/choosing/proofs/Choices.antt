@@ -3,7 +3,7 @@ use Prim.Native.Nat.{ℕ}
 use mathlib.Core.Path.{_≡_, refl, sym, ap, ap₂, subst, _∙_}
 use mathlib.Core.Bool.{Bool, true, false, cond, not as opposite}
 use mathlib.Core.Logic.{⊎-elim}
-use mathlib.Core.List.{List, [], _∷_, List·Memᴰ·head, List·Memᴰ·tail, List·Memᴰ·not-nil, List·Memᴰ·eq-of-singleton, Memᴰ·map, Memᴰ·of-map}
+use mathlib.Core.List.{List, [], _∷_, List·Memᴰ·head, List·Memᴰ·not-nil, List·Memᴰ·eq-of-singleton, Memᴰ·map, Memᴰ·of-map}
 use Rattle.answers.specs.declared.Answer.{Answer}
 use Rattle.answers.specs.declared.Answer.the-variants.{Silent}
 use Rattle.answers.specs.Meaning.{applyOne, applyTwo}
@@ -15,12 +15,12 @@ use Rattle.sets.specs.Meaning.{Among}
 use Rattle.sets.proofs.Members.{pairs-among, among-pairs}
 use Rattle.truths.specs.Meaning.{combine, answered}
 use Rattle.truths.proofs.Whenever.{whenever-either, cond-among}
+use Rattle.truths.proofs.Truths.{each-truth}
 use Rattle.trees.specs.Meaning.{Policy, Test, constant, one, two, when, not, joint, comparison, present, answers, says, holds}
 use Rattle.trees.specs.Meaning.{Operand, first, second, Choice, compareSeen, under, alwaysFalse, mayCompare, maySay, mayHold}
 
 compare-among : (chosen : Bool) (c : Comparison) (s : Seen) (value : ℕ) → Among (compareSeen chosen c s value) (mayCompare c s value)
-compare-among true c Absent value = List·Memᴰ·tail (List·Memᴰ·head refl)
-compare-among false c Absent value = List·Memᴰ·head refl
+compare-among chosen c Absent value = each-truth chosen
 compare-among chosen c (Value x) value = List·Memᴰ·head refl
 
 among-compare : (b : Bool) (c : Comparison) (s : Seen) (value : ℕ) → Among b (mayCompare c s value) → compareSeen b c s value ≡ b

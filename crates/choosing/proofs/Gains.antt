@@ -3,8 +3,8 @@
 use Prim.Native.Nat.{ℕ}
 use mathlib.Core.Path.{_≡_, refl, ap, _∙_}
 use mathlib.Core.Bool.{Bool, true, false, cond, true≢false, not as opposite}
-use mathlib.Core.Logic.{_⊎_, inl, inr, ⊎-elim}
-use mathlib.Core.List.{List, [], _∷_, _++_, List·Memᴰ·head, List·Memᴰ·tail, List·Memᴰ·eq-of-singleton}
+use mathlib.Core.Logic.{_⊎_, inl, inr}
+use mathlib.Core.List.{List, [], _∷_, _++_, List·Memᴰ·head, List·Memᴰ·eq-of-singleton}
 use lib.Dec.{eqb}
 use borrow.Author.Tests.{eqb-true}
 use Rattle.answers.specs.Meaning.{applyOne, applyTwo}
@@ -12,10 +12,10 @@ use Rattle.notices.specs.declared.Comparison.{Comparison}
 use Rattle.notices.specs.declared.Seen.{Seen}
 use Rattle.notices.specs.declared.Seen.the-variants.{Value, Absent}
 use Rattle.notices.specs.Meaning as notice
-use Rattle.sets.specs.Meaning.{Among}
 use Rattle.sets.proofs.Members.{Subset, subset-map, subset-pairs}
 use Rattle.truths.specs.Meaning.{combine, answered}
-use Rattle.truths.proofs.Whenever.{whenever-either}
+use Rattle.truths.proofs.Whenever.{subset-whenever}
+use Rattle.truths.proofs.Truths.{each-truth}
 use Rattle.trees.specs.Meaning.{Policy, Test, constant, one, two, when, not, joint, comparison, present, answers}
 use Rattle.trees.specs.Meaning.{mayCompare, maySay, mayHold, Gains, PolicyUnasked, TestUnasked}
 
@@ -41,12 +41,8 @@ gains-one [] rest f h fact = go (eqb (f .number) fact) refl
 gains-one (x ∷ fs) rest f h fact =
     behind (eqb (x .number) fact) (Value (x .value)) (gains-one fs rest f (absent-behind (eqb (x .number) (f .number)) (x .value) h) fact)
 
-either-truth : (b : Bool) → Among b (false ∷ true ∷ [])
-either-truth true = List·Memᴰ·tail (List·Memᴰ·head refl)
-either-truth false = List·Memᴰ·head refl
-
 compare-gains : (c : Comparison) (s r : Seen) (value : ℕ) → (s ≡ Absent) ⊎ (r ≡ s) → Subset (mayCompare c r value) (mayCompare c s value)
-compare-gains c s r value (inl e) b i = rw e (either-truth b)
+compare-gains c s r value (inl e) b i = rw e (each-truth b)
 compare-gains c s r value (inr e) b i = rw (← e) i
 
 module _ (fs gs : List notice.Fact) (g : Gains fs gs) where
@@ -59,12 +55,8 @@ module _ (fs gs : List notice.Fact) (g : Gains fs gs) where
     maySay-gains (two operator p q) h =
         subset-pairs (applyTwo operator) (maySay gs p) (maySay fs p) (maySay gs q) (maySay fs q)
         (maySay-gains p (h .0)) (maySay-gains q (h .1))
-    maySay-gains (when t p) h = λ a i.
-        whenever-either a (mayHold fs t) (maySay fs p) .1
-        (⊎-elim
-        (λ m. inl (mayHold-gains t (h .0) false (m .0), m .1))
-        (λ m. inr (mayHold-gains t (h .0) true (m .0), maySay-gains p (h .1) a (m .1)))
-        (whenever-either a (mayHold gs t) (maySay gs p) .0 i))
+    maySay-gains (when t p) h =
+        subset-whenever (mayHold gs t) (mayHold fs t) (maySay gs p) (maySay fs p) (mayHold-gains t (h .0)) (maySay-gains p (h .1))
 
     pub mayHold-gains : (t : Test) → TestUnasked fs gs t → Subset (mayHold gs t) (mayHold fs t)
     mayHold-gains (not t) h = subset-map opposite (mayHold gs t) (mayHold fs t) (mayHold-gains t h)

@@ -1,8 +1,7 @@
 -- One level of a voice, answered while it is read: what each way through the code gives is the answer of the tree read.
 use Prim.Native.Nat.{ℕ, suc, _+_, _-_, _≤_, _<_}
-use mathlib.Core.Path.{_≡_, refl, sym, ap, _∙_}
-use mathlib.Core.Bool.{not as opposite}
-use mathlib.Core.List.{List, [], _∷_, map}
+use mathlib.Core.Path.{_≡_, sym, ap, _∙_}
+use mathlib.Core.List.{List, [], _∷_}
 use native.Mathlib.Omega.{arith}
 use lib.ListN.{length, getD}
 use borrow.Author.Tests.{le-leb, lt-leb}
@@ -11,7 +10,6 @@ use Rattle.refusals.specs.Meaning as refusal
 use Rattle.answers.specs.declared.Answer.{Answer}
 use Rattle.answers.specs.declared.operators.One.{One}
 use Rattle.answers.specs.declared.operators.Two.{Two}
-use Rattle.answers.specs.Meaning.{number, applyOne, applyTwo}
 use Rattle.notices.specs.declared.Comparison.{Comparison}
 use Rattle.notices.specs.Meaning.{Fact}
 use Rattle.codes.specs.declared.PolicyKind.{PolicyKind}
@@ -20,11 +18,8 @@ use Rattle.codes.specs.declared.TestKind.{TestKind}
 use Rattle.codes.specs.declared.TestKind.the-variants as T
 use Rattle.codes.specs.declared.Joint.{Joint}
 use Rattle.codes.specs.Meaning.{policyKind, testKind}
-use Rattle.sets.specs.Meaning.{pairs, answerSet, answersIn}
-use Rattle.sets.proofs.Handed.{map-handed, pairs-handed}
-use Rattle.truths.specs.Meaning.{truthNumber, truthSet, truthsIn, combine, answered, whenever}
-use Rattle.truths.proofs.Truths.{not-handed, joint-handed, when-handed}
-use Rattle.trees.specs.Meaning.{Policy, Test, one, two, when, not, joint, answers, maySay, mayHold, Read, made, refused, andThen}
+use Rattle.sets.specs.Meaning.{answerSet}
+use Rattle.trees.specs.Meaning.{maySay, refused}
 use Rattle.trees.specs.Meaning.{comparisonAt, presentAt, policyBy, testBy, policyAt, testAt}
 use Rattle.leaves.specs.declared.Held.{Held}
 use Rattle.leaves.specs.declared.Held.the-variants as Held
@@ -32,95 +27,11 @@ use Rattle.leaves.specs.Meaning.{held}
 use Rattle.policies.specs.declared.Told.{Told}
 use Rattle.policies.specs.declared.Told.the-variants as Told
 use Rattle.policies.specs.Meaning.{told}
+use Rattle.policies.proofs.Operands.{onTold, onHeld, one-on, two-on, when-on, not-on, joint-on, answers-on}
+use Rattle.policies.proofs.Operands.{told-one-of, told-two-of, told-when-of, held-not-of, held-joint-of, held-answers-of}
 
 level : (left : ℕ) → (left ≡ 0 → ⊥) → left ≡ suc (left - 1)
 level left h = omega (arith, h)
-
--- What is done with a set that was told, and with one that was held; a refusal stays.
-abbrev onTold : {A : Type 0} → (Refusal → A) → (ℕ → ℕ → A) → Told → A
-onTold stop onward (Told.May set next) = onward set next
-onTold stop onward (Told.Refused r) = stop r
-
-abbrev onHeld : {A : Type 0} → (Refusal → A) → (ℕ → ℕ → A) → Held → A
-onHeld stop onward (Held.May set next) = onward set next
-onHeld stop onward (Held.Refused r) = stop r
-
--- The operators on sets handed on as numbers.
-abbrev one-on : One → ℕ → ℕ
-one-on operator p = answerSet (map (applyOne operator) (answersIn p))
-
-abbrev two-on : Two → ℕ → ℕ → ℕ
-two-on operator p q = answerSet (pairs (applyTwo operator) (answersIn p) (answersIn q))
-
-abbrev when-on : ℕ → ℕ → ℕ
-when-on t p = answerSet (whenever (truthsIn t) (answersIn p))
-
-abbrev not-on : ℕ → ℕ
-not-on t = truthSet (map opposite (truthsIn t))
-
-abbrev joint-on : Joint → ℕ → ℕ → ℕ
-joint-on j t u = truthSet (pairs (combine j) (truthsIn t) (truthsIn u))
-
-abbrev answers-on : Answer → ℕ → ℕ
-answers-on a p = truthSet (map (answered a) (answersIn p))
-
-module _ (fs : List Fact) where
-  -- What a tree may say hangs on what its operands may say alone.
-  told-one-of : (operator : One) (x : Read Policy) →
-      told fs (andThen x (λ p end. made (one operator p) end)) ≡
-      onTold Told.Refused (λ p end. Told.May (one-on operator p) end) (told fs x)
-  unfolding maySay told held
-  told-one-of operator (made p end) = ap (λ s. Told.May s end) (sym (map-handed number (applyOne operator) (maySay fs p)))
-  told-one-of operator (refused r) = refl
-
-  told-two-of : (operator : Two) (x : Read Policy) (y : ℕ → Read Policy) →
-      told fs (andThen x (λ p next. andThen (y next) (λ q end. made (two operator p q) end))) ≡
-      onTold Told.Refused (λ p next. onTold Told.Refused (λ q end. Told.May (two-on operator p q) end) (told fs (y next))) (told fs x)
-  unfolding maySay told held
-  told-two-of operator (made p next) y = go (y next)
-    where
-      go : (x : Read Policy) → told fs (andThen x (λ q end. made (two operator p q) end)) ≡
-          onTold Told.Refused (λ q end. Told.May (two-on operator (answerSet (maySay fs p)) q) end) (told fs x)
-      go (made q end) = ap (λ s. Told.May s end) (sym (pairs-handed (applyTwo operator) (maySay fs p) (maySay fs q)))
-      go (refused r) = refl
-  told-two-of operator (refused r) y = refl
-
-  told-when-of : (x : Read Test) (y : ℕ → Read Policy) →
-      told fs (andThen x (λ t next. andThen (y next) (λ p end. made (when t p) end))) ≡
-      onHeld Told.Refused (λ t next. onTold Told.Refused (λ p end. Told.May (when-on t p) end) (told fs (y next))) (held fs x)
-  unfolding maySay told held
-  told-when-of (made t next) y = go (y next)
-    where
-      go : (x : Read Policy) → told fs (andThen x (λ p end. made (when t p) end)) ≡
-          onTold Told.Refused (λ p end. Told.May (when-on (truthSet (mayHold fs t)) p) end) (told fs x)
-      go (made p end) = ap (λ s. Told.May s end) (sym (when-handed (mayHold fs t) (maySay fs p)))
-      go (refused r) = refl
-  told-when-of (refused r) y = refl
-
-  held-not-of : (x : Read Test) →
-      held fs (andThen x (λ t end. made (not t) end)) ≡ onHeld Held.Refused (λ t end. Held.May (not-on t) end) (held fs x)
-  unfolding maySay told held
-  held-not-of (made t end) = ap (λ s. Held.May s end) (sym (not-handed opposite (mayHold fs t)))
-  held-not-of (refused r) = refl
-
-  held-joint-of : (j : Joint) (x : Read Test) (y : ℕ → Read Test) →
-      held fs (andThen x (λ t next. andThen (y next) (λ u end. made (joint j t u) end))) ≡
-      onHeld Held.Refused (λ t next. onHeld Held.Refused (λ u end. Held.May (joint-on j t u) end) (held fs (y next))) (held fs x)
-  unfolding maySay told held
-  held-joint-of j (made t next) y = go (y next)
-    where
-      go : (x : Read Test) → held fs (andThen x (λ u end. made (joint j t u) end)) ≡
-          onHeld Held.Refused (λ u end. Held.May (joint-on j (truthSet (mayHold fs t)) u) end) (held fs x)
-      go (made u end) = ap (λ s. Held.May s end) (sym (joint-handed (combine j) (mayHold fs t) (mayHold fs u)))
-      go (refused r) = refl
-  held-joint-of j (refused r) y = refl
-
-  held-answers-of : (wanted : Answer) (x : Read Policy) →
-      held fs (andThen x (λ p end. made (answers wanted p) end)) ≡
-      onTold Held.Refused (λ p end. Held.May (answers-on wanted p) end) (told fs x)
-  unfolding maySay told held
-  held-answers-of wanted (made p end) = ap (λ s. Held.May s end) (sym (map-handed truthNumber (answered wanted) (maySay fs p)))
-  held-answers-of wanted (refused r) = refl
 
 module _ (fs : List Fact) (v : List ℕ) (at : ℕ) where
   module _ {r : Refusal} (w : r ≡ refusal.refused refusal.NEST at) where
@@ -150,7 +61,8 @@ module _ (fs : List Fact) (v : List ℕ) (at : ℕ) where
           ap (λ k. told fs (policyAt k v at)) (level left some) ∙ rw (lt-leb (length v) at l)
           (ap (λ x. told fs (policyBy (λ i. policyAt (left - 1) v i) (λ i. testAt (left - 1) v i) at x)) (sym k ∙ e))
 
-      pub told-constant : {a : Answer} {r : ℕ} → kind ≡ P.Constant a → r ≡ answerSet (a ∷ []) → Told.May r (at + 1) ≡ told fs (policyAt left v at)
+      pub told-constant : {a : Answer} {r : ℕ} → kind ≡ P.Constant a → r ≡ answerSet (a ∷ []) →
+          Told.May r (at + 1) ≡ told fs (policyAt left v at)
       unfolding maySay told
       told-constant {a} e w = rw w (sym (told-by (P.Constant a) e))
 
@@ -236,7 +148,8 @@ module _ (fs : List Fact) (v : List ℕ) (at : ℕ) where
 
       module _ {j : Joint} (e : kind ≡ T.Joint j) {x : Held} (f : x ≡ held fs (testAt (left - 1) v (at + 1))) where
         joint-by : held fs (testAt left v at) ≡
-            onHeld Held.Refused (λ t next. onHeld Held.Refused (λ u end. Held.May (joint-on j t u) end) (held fs (testAt (left - 1) v next))) x
+            onHeld Held.Refused
+            (λ t next. onHeld Held.Refused (λ u end. Held.May (joint-on j t u) end) (held fs (testAt (left - 1) v next))) x
         joint-by = rw f (held-by (T.Joint j) e ∙ held-joint-of fs j (testAt (left - 1) v (at + 1)) (λ i. testAt (left - 1) v i))
 
         pub held-joint-first : {r : Refusal} → x ≡ Held.Refused r → Held.Refused r ≡ held fs (testAt left v at)

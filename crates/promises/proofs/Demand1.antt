@@ -22,7 +22,7 @@ use Rattle.situations.specs.Meaning.{situationAt, faultOf, mergeOf, fault}
 use Rattle.notices.specs.declared.Noticed.{Noticed}
 use Rattle.notices.specs.Meaning.{noticeOf}
 use Rattle.voices.specs.declared.Heard.{Heard}
-use Rattle.voices.specs.Meaning.{hearOf, speakOf}
+use Rattle.voices.specs.Meaning.{unheard, hearOf, speakOf}
 use Rattle.tables.specs.declared.TableRead.{TableRead}
 use Rattle.tables.specs.Meaning.{tableOf, refuseTable, readOf, Table, WellFormed, Consistent, tableBytes, FirstDisagreement}
 use Rattle.nodes.specs.Meaning.{evaluateOf, full, heights}
@@ -36,7 +36,7 @@ use Rattle.replying.proofs.ReplyLaws.{either, numbers-refused, replied-success,
 use Rattle.replying.proofs.TableNumbers.{readOf-read, short-room}
 use Rattle.replying.proofs.NodeNumbers.{faultOf-numbers, answers-succeed, answers-after, evaluateOf-answers, operand-numbers, columns-outside, growth-outside}
 use Rattle.replying.proofs.VoiceNumbers.{noticeOf-notices, hearOf-hears, speakOf-answers}
-use Rattle.replying.specs.Meaning.{Replied, refuseReply, refuseRelated, refuseNoticed, refuseHeard, refuseGrowth, handBack}
+use Rattle.replying.specs.Meaning.{Replied, refuseReply, refuseRelated, refuseNoticed, refuseGrowth, handBack}
 use Rattle.accepting.proofs.FirstDisagreements.{first-inconsistent}
 use Rattle.accepting.proofs.TableEncoding.{write-table, read-write, read-formed, read-consistent, write-overlap, overlap-write, overlap-formed, overlap-named}
 use Rattle.compiler.proofs.CompileReturns.{written-refused}
@@ -89,7 +89,7 @@ merge-replied s t =
 pub notice-replied : (s : List ℕ) → Replied (λ (x : Noticed). x .refusal) refuseNoticed (noticeOf s)
 notice-replied = noticeOf-notices
 
-pub speak-set-replied : (n v : List ℕ) → Replied (λ (x : Heard). x .refusal) refuseHeard (hearOf n v)
+pub speak-set-replied : (n v : List ℕ) → Replied (λ (x : Heard). x .refusal) unheard (hearOf n v)
 speak-set-replied = hearOf-hears
 
 pub speak-replied : (n v : List ℕ) → Replied (λ (x : Reply). x .refusal) refuseReply (speakOf n v)

@@ -17,11 +17,11 @@ use Rattle.codes.specs.Meaning.{policyKind, testKind}
 use Rattle.trees.specs.Meaning.{Policy, Test, Read, made, refused, andThen, comparison, present, comparisonAt, presentAt}
 use Rattle.trees.specs.Meaning.{policyBy, testBy, policyAt, testAt}
 use Rattle.voices.specs.declared.Heard.{Heard}
-use Rattle.voices.specs.Meaning.{readVoice, heard, hearOf, received, speakOf}
+use Rattle.voices.specs.Meaning.{readVoice, unheard, heard, hearOf, received, speakOf}
 use Rattle.replying.proofs.ReplyLaws.{either, Numbers, Refuses, refuses-numbers, numbers-none, numbers-refused}
 use Rattle.replying.proofs.ReplyLaws.{numbers-cond, replied-success, replied-refuse}
 use Rattle.replying.proofs.NodeNumbers.{Answers}
-use Rattle.replying.specs.Meaning.{Replied, refuseHeard, refuseNoticed}
+use Rattle.replying.specs.Meaning.{Replied, refuseNoticed}
 
 -- notices
 fault-numbers : (left at least : ℕ) (s : List ℕ) → Numbers (notice.fault left at least s)
@@ -119,12 +119,13 @@ readVoice-makes v =
     (λ p end. either Makes (ltb end (length v)) (refused (refusal.refused TAIL end)) (made p end) (tt, refl) tt)
 
 abbrev pub Hears : Heard → Type 0
-Hears x = Replied (λ (x : Heard). x .refusal) refuseHeard x
+Hears x = Replied (λ (x : Heard). x .refusal) unheard x
 
 heard-hears : (x : notice.Reading) (y : Read Policy) → Reads x → Makes y → Hears (heard x y)
-heard-hears (notice.refused r) y h k = replied-refuse (λ (x : Heard). x .refusal) refuseHeard (λ r. refl) r h
-heard-hears (notice.facts fs) (refused r) h k = replied-refuse (λ (x : Heard). x .refusal) refuseHeard (λ r. refl) r (refuses-numbers r k)
-heard-hears (notice.facts fs) (made p end) h k = replied-success (λ (x : Heard). x .refusal) refuseHeard _ refl
+heard-hears (notice.refused r) y h k = replied-refuse (λ (x : Heard). x .refusal) unheard (λ r. refl) r h
+heard-hears (notice.facts fs) (refused r) h k =
+    replied-refuse (λ (x : Heard). x .refusal) unheard (λ r. refl) r (refuses-numbers r k)
+heard-hears (notice.facts fs) (made p end) h k = replied-success (λ (x : Heard). x .refusal) unheard _ refl
 
 pub hearOf-hears : (n v : List ℕ) → Hears (hearOf n v)
 hearOf-hears n v = heard-hears (notice.readFacts n) (readVoice v) (readRest-reads 32 0 0 n) (readVoice-makes v)

@@ -9,7 +9,6 @@ use Rattle.answers.specs.declared.Answer.the-variants.{Silent}
 use Rattle.answers.specs.declared.Reply.{Reply}
 use Rattle.operands.specs.declared.Related.{Related}
 use Rattle.notices.specs.declared.Noticed.{Noticed}
-use Rattle.voices.specs.declared.Heard.{Heard}
 use Rattle.growth.specs.declared.Growth.{Growth}
 use Rattle.growth.specs.Meaning.{without}
 use Rattle.situations.specs.declared.Merged.{Merged}
@@ -28,8 +27,8 @@ pub record Replied {A : Type 0} (refusal : A → Refusal) (refuse : Refusal → 
   pub second : (refusal reply .number ≡ OVERLAP → ⊥) → refusal reply .second ≡ 0
   pub nothing-else : (refusal reply .number ≡ 0 → ⊥) → reply ≡ refuse (refusal reply)
 
--- What a refusal returns besides its numbers, where no crate below names it: of an answer, of a containment, of a notice, of a voice's
--- set, of the growth check, and of a merge ("a refused merge hands back the first as it came").
+-- What a refusal returns besides its numbers, where no crate below names it: of an answer, of a containment, of a notice, of the growth
+-- check, and of a merge ("a refused merge hands back the first as it came").
 abbrev pub refuseReply : Refusal → Reply
 refuseReply r = record { refusal = r; answer = Silent }
 
@@ -38,9 +37,6 @@ refuseRelated r = record { refusal = r; contained = false }
 
 abbrev pub refuseNoticed : Refusal → Noticed
 refuseNoticed r = record { refusal = r; facts = 0 }
-
-abbrev pub refuseHeard : Refusal → Heard
-refuseHeard r = record { refusal = r; set = 0; answer = Silent }
 
 abbrev pub refuseGrowth : Refusal → Growth
 refuseGrowth r = without r 0

@@ -42,7 +42,8 @@ answerSet = setOf number
 abbrev pub answersIn : ℕ → List Answer
 answersIn = members number (Silent ∷ Bury ∷ Keep ∷ Clash ∷ [])
 
--- "The column receives the meet of the set": the greatest answer that is contained in every member.
+-- "The column receives the meet of the set": the meet of its members, one after another. Clash is where that starts, since it changes
+-- nothing; no set that a voice answers is empty.
 abbrev pub meetOf : List Answer → Answer
 meetOf [] = Clash
 meetOf (p ∷ ps) = meet p (meetOf ps)

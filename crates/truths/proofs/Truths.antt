@@ -1,7 +1,6 @@
 -- Sets of truths and their numbers; a test of two, and when, member by member.
 use Prim.Native.Nat.{ℕ, _%_}
 use mathlib.Core.Path.{_≡_, refl, sym, ap}
-use mathlib.Core.Logic.{⊎-map}
 use mathlib.Core.Bool.{Bool, true, false, cond}
 use mathlib.Core.List.{List, [], _∷_, _++_, map, append-nil, List·Memᴰ·head, List·Memᴰ·tail}
 use native.Mathlib.Nat.{div-one}
@@ -14,7 +13,7 @@ use Rattle.sets.proofs.Numbers.{Numbered, set-same, members-same, answers-same}
 use Rattle.sets.proofs.Spread.{map-append, pairs-append, spread}
 use Rattle.sets.proofs.Low.{low-bits}
 use Rattle.truths.specs.Meaning.{truthNumber, truthSet, truthsIn, whenever}
-use Rattle.truths.proofs.Whenever.{whenever-either}
+use Rattle.truths.proofs.Whenever.{subset-whenever}
 
 -- A fact about both truths.
 both : (P : Bool → Type 0) → P false × P true → (t : Bool) → P t
@@ -24,13 +23,17 @@ both P h true = h .1
 two-truths : (P : Bool → Bool → Type 0) → (P false false × P false true) × (P true false × P true true) → (t u : Bool) → P t u
 two-truths P h t = both (P t) (both (λ t. P t false × P t true) h t)
 
+-- Each of the two stands among both.
+pub each-truth : (t : Bool) → Among t (false ∷ true ∷ [])
+each-truth = both _ (search (List·Memᴰ·head, List·Memᴰ·tail, refl))
+
 truths-numbered : Numbered truthNumber (false ∷ true ∷ [])
 truths-numbered =
     record {
-      complete = both _ (search (List·Memᴰ·head, List·Memᴰ·tail, refl));
+      complete = each-truth;
       power = two-truths _ (search refl);
       zero-bit = both _ (search refl);
-      alike = λ t u. two-truths (λ t u. eqb (truthNumber t) (truthNumber u) ≡ true → t ≡ u) ((λ h. refl, λ h. h), (λ h. sym h, λ h. refl)) t u;
+      alike = two-truths (λ t u. eqb (truthNumber t) (truthNumber u) ≡ true → t ≡ u) ((λ h. refl, λ h. h), (λ h. sym h, λ h. refl));
       itself = both _ (search refl);
     }
 
@@ -83,13 +86,9 @@ joint-handed f ts us = set-same _ (same-pairs f (truths-same ts) (truths-same us
 
 pub when-handed : (ts : List Bool) (ps : List Answer) →
     answerSet (whenever (truthsIn (truthSet ts)) (answersIn (answerSet ps))) ≡ answerSet (whenever ts ps)
-when-handed ts ps = set-same _ (same-whenever (truths-same ts) (answers-same ps))
-  where
-    carried : (ts us : List Bool) (ps qs : List Answer) → ((t : Bool) → Among t ts → Among t us) → ((a : Answer) → Among a ps → Among a qs) →
-        (a : Answer) → Among a (whenever ts ps) → Among a (whenever us qs)
-    carried ts us ps qs h k a i =
-        whenever-either a us qs .1
-        (⊎-map (λ e. (h false (e .0), e .1)) (λ e. (h true (e .0), k a (e .1))) (whenever-either a ts ps .0 i))
-
-    same-whenever : {ts us : List Bool} {ps qs : List Answer} → Same ts us → Same ps qs → Same (whenever ts ps) (whenever us qs)
-    same-whenever {ts} {us} {ps} {qs} h k = (carried ts us ps qs (h .0) (k .0), carried us ts qs ps (h .1) (k .1))
+when-handed ts ps =
+    let tests = truthsIn (truthSet ts) in
+    let policies = answersIn (answerSet ps) in
+    let h = truths-same ts in
+    let k = answers-same ps in
+    set-same _ (subset-whenever tests ts policies ps (h .0) (k .0), subset-whenever ts tests ps policies (h .1) (k .1))

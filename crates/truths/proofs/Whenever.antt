@@ -1,12 +1,13 @@
 -- "24 when: a test, then a policy, silent where the test is false", on sets.
 use mathlib.Core.Path.{_≡_, refl}
 use mathlib.Core.Bool.{Bool, true, false, cond, true≢false, false≢true}
-use mathlib.Core.Logic.{_⊎_, inl, inr, ⊎-elim, _↔_}
+use mathlib.Core.Logic.{_⊎_, inl, inr, ⊎-elim, ⊎-map, _↔_}
 use mathlib.Core.List.{List, [], _∷_, List·Memᴰ·head, List·Memᴰ·tail, List·Memᴰ·not-nil, List·Memᴰ·cases-cons, List·Memᴰ·append-cases}
 use mathlib.Core.List.{Memᴰ·append-left, Memᴰ·append-right}
 use Rattle.answers.specs.declared.Answer.{Answer}
 use Rattle.answers.specs.declared.Answer.the-variants.{Silent}
 use Rattle.sets.specs.Meaning.{Among}
+use Rattle.sets.proofs.Members.{Subset}
 use Rattle.truths.specs.Meaning.{whenever}
 
 -- silent where the test may be false, or one of the policy's answers where it may be true
@@ -48,3 +49,9 @@ pub cond-among : (t : Bool) (a : Answer) (ts : List Bool) (ps : List Answer) →
     Among (cond t a Silent) (whenever ts ps)
 cond-among true a ts ps i j = said-among a ts ps i j
 cond-among false a ts ps i j = silent-among Silent ts ps i refl
+
+-- more truths and more answers leave more open
+pub subset-whenever : (ts us : List Bool) (ps qs : List Answer) → Subset ts us → Subset ps qs → Subset (whenever ts ps) (whenever us qs)
+subset-whenever ts us ps qs h k a i =
+    whenever-either a us qs .1
+    (⊎-map (λ e. (h false (e .0), e .1)) (λ e. (h true (e .0), k a (e .1))) (whenever-either a ts ps .0 i))

@@ -9,7 +9,6 @@ use borrow.Author.Tests.{lt-ltb, le-ltb}
 use Rattle.refusals.specs.declared.Refusal.{Refusal}
 use Rattle.refusals.specs.Meaning as refusal
 use Rattle.answers.specs.declared.Answer.{Answer}
-use Rattle.answers.specs.declared.Answer.the-variants.{Silent}
 use Rattle.notices.specs.declared.Noticed.{Noticed}
 use Rattle.notices.specs.Meaning as notice
 use Rattle.notices.proofs.Found.{Found, readRest-found}
@@ -20,10 +19,7 @@ use Rattle.policies.specs.declared.Told.{Told}
 use Rattle.policies.specs.declared.Told.the-variants.{May, Refused}
 use Rattle.policies.specs.Meaning.{told}
 use Rattle.voices.specs.declared.Heard.{Heard}
-use Rattle.voices.specs.Meaning.{readVoice, heard, hearOf}
-
-abbrev unheard : Refusal → Heard
-unheard r = record { refusal = r; set = 0; answer = Silent }
+use Rattle.voices.specs.Meaning.{readVoice, unheard, heard, hearOf}
 
 of-notice : (x : notice.Reading) (y : Read Policy) → (notice.noticed x .refusal .number ≡ 0 → ⊥) →
     unheard (notice.noticed x .refusal) ≡ heard x y

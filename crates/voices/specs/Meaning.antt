@@ -4,6 +4,7 @@ use mathlib.Core.Bool.{cond}
 use mathlib.Core.List.{List}
 use lib.Dec.{ltb}
 use lib.ListN.{length}
+use Rattle.refusals.specs.declared.Refusal.{Refusal}
 use Rattle.refusals.specs.Meaning as refusal
 use Rattle.answers.specs.declared.Answer.the-variants.{Silent}
 use Rattle.answers.specs.declared.Reply.{Reply}
@@ -19,12 +20,15 @@ readVoice v =
     andThen (policyAt 16 v 0)
     (λ p end. cond (ltb end (length v)) (refused (refusal.refused refusal.TAIL end)) (made p end))
 
+-- "A refusal returns .. answer silent", and any other result number, so the set's, 0.
+abbrev pub unheard : Refusal → Heard
+unheard r = record { refusal = r; set = 0; answer = Silent }
+
 -- "The notice is checked before the voice": then the voice's tree answers to the notice's facts.
--- "a voice answers a set of one to four answers .. The column receives the meet of the set." A refusal returns answer silent and
--- the set number 0.
+-- "a voice answers a set of one to four answers .. The column receives the meet of the set."
 abbrev pub heard : notice.Reading → Read Policy → Heard
-heard (notice.refused r) voice = record { refusal = r; set = 0; answer = Silent }
-heard (notice.facts fs) (refused r) = record { refusal = r; set = 0; answer = Silent }
+heard (notice.refused r) voice = unheard r
+heard (notice.facts fs) (refused r) = unheard r
 heard (notice.facts fs) (made p end) = record { refusal = refusal.none; set = answerSet (maySay fs p); answer = meetOf (maySay fs p) }
 
 abbrev pub hearOf : List ℕ → List ℕ → Heard

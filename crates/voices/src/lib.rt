@@ -8,8 +8,7 @@
 // Refused, in this order: what `notices::read_notice` refuses of the notice; what `policies::policy` refuses from the root
 // on, where a 17th level is NEST; after the root, bytes left, TAIL.
 ghost use mathlib.Core.Path.{_≡_};
-ghost use Rattle.answers.specs.declared.Answer.the-variants.{Silent};
-ghost use Rattle.voices.specs.Meaning.{hearOf, speakOf};
+ghost use Rattle.voices.specs.Meaning.{unheard, hearOf, speakOf};
 use answers::Answer;
 use answers::Reply;
 use policies::Told;
@@ -28,7 +27,7 @@ pub struct Heard {
 }
 
 fn unheard(refusal: Refusal) -> Heard
-    ensures { λ r. ⌜ r ≡ record { refusal = refusal; set = 0; answer = Silent } ⌝ }
+    ensures { λ r. ⌜ r ≡ unheard refusal ⌝ }
 {
     Heard {
         refusal,

@@ -8,7 +8,9 @@ returns c = compared-cut _ _ _ (c .before .before .bytes-from .ensures) (c .refu
 
 returns-2 : tie.Need-returns-2
 returns-2 c =
-    compared-is _ _ _ (c .before .before .before .before .before .before .before .before .before .before .before .bytes-from .ensures) (c .before .before .before .before .before .before .before .two .ensures .0) (c .before .look-up .ensures) _ (c .before .before .before .before .before .before .before .before .before .before .if1 .left)
+    compared-is _ _ _ (c .before .before .before .before .before .before .before .before .before .before .before .bytes-from .ensures)
+    (c .before .before .before .before .before .before .before .two .ensures .0) (c .before .look-up .ensures)
+    _ (c .before .before .before .before .before .before .before .before .before .before .if1 .left)
     (c .before .before .four .ensures) (c .compare-seen .ensures)
 
 pub compared-at-spec : {M : Type 1} → statement M

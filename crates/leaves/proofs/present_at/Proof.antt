@@ -8,7 +8,8 @@ returns c = present-cut _ _ _ (c .before .before .bytes-from .ensures) (c .refus
 
 returns-2 : tie.Need-returns-2
 returns-2 c =
-    present-is _ _ _ (c .before .before .before .before .before .before .bytes-from .ensures) (c .before .before .two .ensures .0) (c .before .look-up .ensures) (c .before .before .before .before .before .if1 .left)
+    present-is _ _ _ (c .before .before .before .before .before .before .bytes-from .ensures) (c .before .before .two .ensures .0)
+    (c .before .look-up .ensures) (c .before .before .before .before .before .if1 .left)
     (c .present-seen .ensures)
 
 pub present-at-spec : {M : Type 1} → statement M

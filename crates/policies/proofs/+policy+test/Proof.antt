@@ -1,7 +1,10 @@
 use borrow.Author.Needs.{needs}
-use Rattle.policies.proofs.Levels.{told-nest, told-cut, told-constant, told-one, told-one-stop, told-two, told-two-stop, told-two-first}
-use Rattle.policies.proofs.Levels.{told-when, told-when-stop, told-when-first, told-foreign, held-nest, held-cut, held-not, held-not-stop}
-use Rattle.policies.proofs.Levels.{held-joint, held-joint-stop, held-joint-first, held-comparison, held-present, held-answers, held-answers-stop, held-foreign}
+use Rattle.policies.proofs.Levels.{told-nest, told-cut, told-constant, told-one}
+use Rattle.policies.proofs.Levels.{told-one-stop, told-two, told-two-stop, told-two-first}
+use Rattle.policies.proofs.Levels.{told-when, told-when-stop, told-when-first, told-foreign}
+use Rattle.policies.proofs.Levels.{held-nest, held-cut, held-not, held-not-stop}
+use Rattle.policies.proofs.Levels.{held-joint, held-joint-stop, held-joint-first, held-comparison}
+use Rattle.policies.proofs.Levels.{held-present, held-answers, held-answers-stop, held-foreign}
 use Prim.Native.Nat.{ℕ, _<_}
 use borrow.Fn.Kinds.{In}
 use borrow.Fn.PlainCycle.{Measures, is, falls, and}
@@ -135,14 +138,21 @@ pub +policy+test-spec : {M : Type 1} → statement M
     (λ c. search (needs, told-constant))
     (λ c. search (needs, told-one))
     (λ c. search (needs, told-one-stop))
-    (λ c. told-two _ _ _ _ (c .before .before .before .before .before .before .before .before .before .before .before .before .before .before .before .if1 .left) (c .before .before .before .before .before .before .before .before .before .before .before .before .before .before .if2 .left) (c .before .before .before .before .before .before .before .before .before .before .before .before .policy-kind .ensures) (c .before .before .before .before .before .before .before .before .before .before .kind3 .given .1)
-    (c .before .before .before .before .before .before .before .before .policy2 .ensures) (c .before .before .before .before .before .before .p2 .given .1) (c .before .before .before .before .policy3 .ensures) (c .before .before .q .given .1) (c .apply-two .ensures))
+    (λ c. told-two _ _ _ _ (c .before .before .before .before .before .before .before .before .before .before .before .before .before .before .before .if1 .left)
+    (c .before .before .before .before .before .before .before .before .before .before .before .before .before .before .if2 .left)
+    (c .before .before .before .before .before .before .before .before .before .before .before .before .policy-kind .ensures)
+    (c .before .before .before .before .before .before .before .before .before .before .kind3 .given .1)
+    (c .before .before .before .before .before .before .before .before .policy2 .ensures)
+    (c .before .before .before .before .before .before .p2 .given .1) (c .before .before .before .before .policy3 .ensures)
+    (c .before .before .q .given .1) (c .apply-two .ensures))
     (λ c. search (needs, told-two-stop))
     (λ c. search (needs, told-two-first))
     (λ c. search (needs, told-when))
     (λ c. search (needs, told-when-stop))
     (λ c. search (needs, told-when-first))
-    (λ c. told-foreign _ _ _ _ (c .before .before .before .before .before .before .if1 .left) (c .before .before .before .before .before .if2 .left) (c .before .before .before .policy-kind .ensures) (c .before .enum-told2 .given .1) (c .refused3 .ensures)))
+    (λ c. told-foreign _ _ _ _ (c .before .before .before .before .before .before .if1 .left)
+    (c .before .before .before .before .before .if2 .left) (c .before .before .before .policy-kind .ensures)
+    (c .before .enum-told2 .given .1) (c .refused3 .ensures)))
     (λ t. test-lts.spec (test-claims t) (test-at t) test.Post
     (λ c κs. search needs)
     (λ c. search (needs, held-nest))
@@ -183,8 +193,13 @@ pub +policy+test-spec : {M : Type 1} → statement M
     (λ c κs. search needs)
     (λ c. search (needs, held-not))
     (λ c. search (needs, held-not-stop))
-    (λ c. held-joint _ _ _ _ (c .before .before .before .before .before .before .before .before .before .before .before .before .before .before .before .if1 .left) (c .before .before .before .before .before .before .before .before .before .before .before .before .before .before .if2 .left) (c .before .before .before .before .before .before .before .before .before .before .before .before .test-kind .ensures) (c .before .before .before .before .before .before .before .before .before .before .kind .given .1)
-    (c .before .before .before .before .before .before .before .before .test2 .ensures) (c .before .before .before .before .before .before .t2 .given .1) (c .before .before .before .before .test3 .ensures) (c .before .before .u .given .1) (c .combine .ensures))
+    (λ c. held-joint _ _ _ _ (c .before .before .before .before .before .before .before .before .before .before .before .before .before .before .before .if1 .left)
+    (c .before .before .before .before .before .before .before .before .before .before .before .before .before .before .if2 .left)
+    (c .before .before .before .before .before .before .before .before .before .before .before .before .test-kind .ensures)
+    (c .before .before .before .before .before .before .before .before .before .before .kind .given .1)
+    (c .before .before .before .before .before .before .before .before .test2 .ensures)
+    (c .before .before .before .before .before .before .t2 .given .1) (c .before .before .before .before .test3 .ensures)
+    (c .before .before .u .given .1) (c .combine .ensures))
     (λ c. search (needs, held-joint-stop))
     (λ c. search (needs, held-joint-first))
     (λ c. search (needs, held-comparison))

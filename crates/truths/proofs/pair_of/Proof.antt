@@ -4,7 +4,8 @@ use Rattle.truths.proofs.pair_of.Statement.{statement}
 use Rattle.truths.proofs.pair_of.Tie as tie
 
 returns : tie.Need-returns
-returns c = rw (c .certain .ensures, c .before .combined .ensures, ← c .before .before .before .may-be .ensures, c .before .before .if1 .taken)
+returns c =
+    rw (c .certain .ensures, c .before .combined .ensures, ← c .before .before .before .may-be .ensures, c .before .before .if1 .taken)
 
 returns-2 : tie.Need-returns-2
 unfolding setOf
