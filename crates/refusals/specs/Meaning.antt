@@ -81,3 +81,7 @@ RISE = 20
 
 abbrev pub FACTS : ℕ
 FACTS = 21
+
+-- "28 WEEK for a notice too many"
+abbrev pub WEEK : ℕ
+WEEK = 28

@@ -1,5 +1,5 @@
 // The refusals: the numbers that a caller gets, and the three that every reply starts with.
-// It refuses nothing itself. Number 0 is success, and 15 is unused.
+// It refuses nothing itself. Number 0 is success, 15 is unused, and 22 to 27 are not given yet.
 
 ghost use mathlib.Core.Path.{_≡_};
 ghost use Rattle.refusals.specs.Meaning.{none, refused};
@@ -43,6 +43,8 @@ pub const TAIL: u8 = 19;
 pub const RISE: u8 = 20;
 
 pub const FACTS: u8 = 21;
+
+pub const WEEK: u8 = 28;
 
 // The number, its place (an offset or an index, unless said) and a second number, which only OVERLAP has.
 pub struct Refusal {

@@ -1,0 +1,4 @@
+pub mod Printing
+pub mod Lengths
+pub mod DigitsRead
+pub mod Saying
