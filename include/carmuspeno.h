@@ -1,4 +1,4 @@
-/* Carmuspeno: four answers, tables compiled to nodes, notices, voices, and the growth check.
+/* Carmuspeno: four answers, tables compiled to nodes, notices, voices, weekly counts, and the growth check.
  *
  * Link with libcarmuspeno.a (x86-64, System V calling convention; its code uses SSE registers and the red zone, and calls
  * memcpy and memset). No function allocates, blocks, keeps a pointer after it returns, or has state of its own, so threads may
@@ -32,7 +32,7 @@ enum { CARM_NEITHER = 0, CARM_YES = 1, CARM_NO = 2 };
 /* Room that is enough for the nodes of every lawful table. */
 #define CARM_NODES_MAX 4223
 
-/* Refusals, and what `place` is. Number 15 is unused. */
+/* Refusals, and what `place` is. Numbers 15 and 22 to 27 are unused. */
 enum {
     CARM_SHORT = 1,      /* a field is cut short; its offset */
     CARM_START = 2,      /* a table does not start with its number of columns; 0 */
@@ -53,7 +53,8 @@ enum {
     CARM_NEST = 18,      /* a 17th level; where its code would stand */
     CARM_TAIL = 19,      /* bytes after the voice; the first of them */
     CARM_RISE = 20,      /* a fact whose number does not pass the one before; its field's offset */
-    CARM_FACTS = 21      /* a 33rd fact; its field's offset */
+    CARM_FACTS = 21,     /* a 33rd fact; its field's offset */
+    CARM_WEEK = 28       /* a 1,000,001st notice of a batch; its field's offset */
 };
 
 typedef struct { uint64_t number, place, second, answer; } carm_answer;
@@ -80,6 +81,11 @@ typedef struct { uint64_t number, place, second, facts; } carm_noticed;
 /* What a voice may answer: `set` has bit a (1, 2, 4, 8) for each possible answer a, so 1 to 15; `answer` is the meet of these,
  * which is what the voice's column receives. */
 typedef struct { uint64_t number, place, second, set, answer; } carm_heard;
+
+/* A voice's record over a batch: how many notices gave each answer, how many were refused, and in `by_number` at each number how
+ * many were refused with it. The first five add up to the notices read, `by_number` adds up to `refused`. In a refusal, which
+ * is that of a field of the batch, they are the counts of the notices before that field. */
+typedef struct { uint64_t number, place, second, silent, bury, keep, clash, refused, by_number[32]; } carm_week;
 
 /* The operators. An operand above 3 is VALUE. */
 carm_answer carm_negate(uint8_t p);
@@ -121,6 +127,12 @@ carm_answer carm_speak(const uint8_t *notice, size_t notice_len, const uint8_t *
 
 /* The same, with the set of all that the voice may answer. */
 carm_heard carm_speak_set(const uint8_t *notice, size_t notice_len, const uint8_t *voice, size_t voice_len);
+
+/* What carm_speak says of each notice of a batch, counted. A batch is fields of tag 17, each with one notice of at most 288 bytes
+ * as its value, at most 1,000,000 of them; no bytes are a batch too. A refused voice does not refuse the call: every notice is
+ * counted as refused, with its own number where it is refused itself and else with the voice's. A batch cut between two fields
+ * may be counted in parts: the counts of the parts add up, and places are those in the part. */
+carm_week carm_count_week(const uint8_t *batch, size_t batch_len, const uint8_t *voice, size_t voice_len);
 
 #ifdef __cplusplus
 }

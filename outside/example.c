@@ -1,4 +1,4 @@
-/* A small use of the C face: compile a table, ask what it answers, see whether it grows, let a voice speak. */
+/* A small use of the C face: compile a table, ask what it answers, see whether it grows, let a voice speak, count a week. */
 #include <inttypes.h>
 #include <stdio.h>
 
@@ -49,6 +49,17 @@ int main(void)
     for (int answer = 0; answer < 4; answer++)
         if (heard.set >> answer & 1) printf(" %s", words[answer]);
     printf("\n");
+
+    /* a batch: fact 7 is 0, fact 7 is 1, no facts, and a notice that is cut short */
+    const uint8_t batch[] = {
+        17, 0, 9, 16, 0, 6, 0, 7, 0, 0, 0, 0,
+        17, 0, 9, 16, 0, 6, 0, 7, 0, 0, 0, 1,
+        17, 0, 0,
+        17, 0, 1, 16,
+    };
+    carm_week week = carm_count_week(batch, sizeof batch, voice, sizeof voice);
+    printf("week: silent %" PRIu64 ", bury %" PRIu64 ", keep %" PRIu64 ", clash %" PRIu64, week.silent, week.bury, week.keep, week.clash);
+    printf(", refused %" PRIu64 ", cut short %" PRIu64 "\n", week.refused, week.by_number[CARM_SHORT]);
 
     /* the laptop's report merged with the library's */
     carm_situation laptop = { 2, { CARM_KEEP, CARM_SILENT } }, library = { 2, { CARM_SILENT, CARM_BURY } };

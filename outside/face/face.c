@@ -45,16 +45,19 @@ static unsigned digit(char c)
     return 0;
 }
 
+/* the bytes of a word; those of WORDxN are repeated N times */
 static argument next_bytes(void)
 {
     const char *word = next_word();
     argument a = { NULL, NULL, 0 };
     if (strcmp(word, "-") == 0) return a;
-    a.length = strlen(word) / 2;
+    size_t once = strcspn(word, "x") / 2;
+    a.length = word[2 * once] ? once * strtoull(word + 2 * once + 1, NULL, 10) : once;
     a.bytes = malloc(a.length);
     a.copy = malloc(a.length);
     if (!a.bytes || !a.copy) fail("no memory", line_now);
-    for (size_t i = 0; i < a.length; i++) a.bytes[i] = (uint8_t)(digit(word[2 * i]) * 16 + digit(word[2 * i + 1]));
+    for (size_t i = 0; i < a.length; i++)
+        a.bytes[i] = (uint8_t)(digit(word[i % once * 2]) * 16 + digit(word[i % once * 2 + 1]));
     memcpy(a.copy, a.bytes, a.length);
     return a;
 }
@@ -170,9 +173,21 @@ static void speak_set(void)
     printf(" %" PRIu64 " %" PRIu64 "\n", r.set, r.answer);
 }
 
+static void count_week(void)
+{
+    argument batch = next_bytes(), voice = next_bytes();
+    carm_week r = carm_count_week(batch.bytes, batch.length, voice.bytes, voice.length);
+    done(batch);
+    done(voice);
+    print_three(r.number, r.place, r.second);
+    printf(" %" PRIu64 " %" PRIu64 " %" PRIu64 " %" PRIu64 " %" PRIu64, r.silent, r.bury, r.keep, r.clash, r.refused);
+    for (int number = 0; number < 32; number++) printf(" %" PRIu64, r.by_number[number]);
+    printf("\n");
+}
+
 static const struct { const char *name; void (*call)(void); } calls[] = {
     { "compile", compile }, { "evaluate", evaluate }, { "merge", merge },         { "growth", growth },
-    { "notice", notice },   { "speak", speak },       { "speak_set", speak_set },
+    { "notice", notice },   { "speak", speak },       { "speak_set", speak_set }, { "count_week", count_week },
 };
 
 static const struct { const char *name; carm_answer (*call)(uint8_t); } ones[] = {

@@ -12,11 +12,12 @@ ghost use Rattle.answers.specs.declared.operators.Two.the-variants as two;
 ghost use Rattle.situations.specs.Meaning.{mergeOf};
 ghost use Rattle.notices.specs.Meaning.{noticeOf};
 ghost use Rattle.voices.specs.Meaning.{speakOf, hearOf};
+ghost use Rattle.weeks.specs.Meaning.{weekOf};
 ghost use Rattle.compiler.specs.Meaning.{compileOf, writtenOf};
 ghost use Rattle.nodes.specs.Meaning.{evaluateOf};
 ghost use Rattle.growth.specs.Meaning.{growthOf};
 ghost use Rattle.face.specs.Meaning.{answerFace, containedFace, compiledFace, situationBehind, mergedFace, growthFace, noticedFace};
-ghost use Rattle.face.specs.Meaning.{heardFace};
+ghost use Rattle.face.specs.Meaning.{heardFace, weekFace};
 use answers::operators::One;
 use answers::operators::Two;
 pub use face::CarmAnswer;
@@ -26,6 +27,7 @@ pub use face::CarmHeard;
 pub use face::CarmMerged;
 pub use face::CarmNoticed;
 pub use face::CarmSituation;
+pub use face::CarmWeek;
 
 #[no_mangle]
 pub extern "C" fn carm_negate(p: u8) -> CarmAnswer
@@ -172,4 +174,12 @@ pub extern "C" fn carm_speak_set(notice: &[u8], voice: &[u8]) -> CarmHeard
     ensures { λ r. ⌜ r ≡ heardFace (hearOf (now (notice .entry)) (now (voice .entry))) ⌝ }
 {
     face::heard_face(voices::speak_set(notice, voice))
+}
+
+// The voice's record over a batch of notices.
+#[no_mangle]
+pub extern "C" fn carm_count_week(batch: &[u8], voice: &[u8]) -> CarmWeek
+    ensures { λ r. ⌜ r ≡ weekFace (weekOf (now (batch .entry)) (now (voice .entry))) ⌝ }
+{
+    face::week_face(weeks::count_week(batch, voice))
 }

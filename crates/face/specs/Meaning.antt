@@ -9,6 +9,7 @@ use Rattle.notices.specs.declared.Noticed.{Noticed}
 use Rattle.compiler.specs.declared.Compiled.{Compiled}
 use Rattle.growth.specs.declared.Growth.{Growth}
 use Rattle.voices.specs.declared.Heard.{Heard}
+use Rattle.weeks.specs.declared.Week.{Week}
 use Rattle.face.specs.declared.CarmAnswer.{CarmAnswer}
 use Rattle.face.specs.declared.CarmCompiled.{CarmCompiled}
 use Rattle.face.specs.declared.CarmSituation.{CarmSituation}
@@ -16,6 +17,7 @@ use Rattle.face.specs.declared.CarmMerged.{CarmMerged}
 use Rattle.face.specs.declared.CarmGrowth.{CarmGrowth}
 use Rattle.face.specs.declared.CarmNoticed.{CarmNoticed}
 use Rattle.face.specs.declared.CarmHeard.{CarmHeard}
+use Rattle.face.specs.declared.CarmWeek.{CarmWeek}
 
 -- "Every reply starts with the three numbers of document 01: number (0 is success), place, second."
 abbrev pub answerFace : Reply → CarmAnswer
@@ -85,4 +87,20 @@ heardFace r =
       second = r .refusal .second;
       set = r .set;
       answer = number (r .answer);
+    }
+
+-- "The four answers' counts, the refused, and in by_number at index r how many notices were refused with number r .. A refused batch
+-- field gives its number and place, second 0, and the counts so far."
+abbrev pub weekFace : Week → CarmWeek
+weekFace w =
+    record {
+      number = w .refusal .number;
+      place = w .refusal .place;
+      second = w .refusal .second;
+      silent = w .counts .silent;
+      bury = w .counts .bury;
+      keep = w .counts .keep;
+      clash = w .counts .clash;
+      refused = w .counts .refused;
+      «by_number» = w .counts .numbers;
     }

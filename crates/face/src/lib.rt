@@ -6,7 +6,7 @@
 ghost use mathlib.Core.Path.{_≡_};
 ghost use Rattle.operands.specs.Meaning.{oneOf, twoOf};
 ghost use Rattle.face.specs.Meaning.{answerFace, containedFace, compiledFace, situationFace, situationBehind};
-ghost use Rattle.face.specs.Meaning.{mergedFace, growthFace, noticedFace, heardFace};
+ghost use Rattle.face.specs.Meaning.{mergedFace, growthFace, noticedFace, heardFace, weekFace};
 use answers::Reply;
 use answers::operators::One;
 use answers::operators::Two;
@@ -17,6 +17,7 @@ use operands::Related;
 use situations::Merged;
 use situations::Situation;
 use voices::Heard;
+use weeks::Week;
 
 #[repr(C)]
 pub struct CarmAnswer {
@@ -78,6 +79,20 @@ pub struct CarmHeard {
     pub second: u64,
     pub set: u64,
     pub answer: u64,
+}
+
+// How many notices gave each answer, how many were refused, and at each index how many with that number.
+#[repr(C)]
+pub struct CarmWeek {
+    pub number: u64,
+    pub place: u64,
+    pub second: u64,
+    pub silent: u64,
+    pub bury: u64,
+    pub keep: u64,
+    pub clash: u64,
+    pub refused: u64,
+    pub by_number: [u64; 32],
 }
 
 pub fn answer_face(reply: Reply) -> CarmAnswer
@@ -199,5 +214,24 @@ pub fn heard_face(heard: Heard) -> CarmHeard
         second: heard.refusal.second as u64,
         set: heard.set as u64,
         answer: answers::number(answer) as u64,
+    }
+}
+
+pub fn week_face(week: Week) -> CarmWeek
+    ensures { λ r. ⌜ r ≡ weekFace week ⌝ }
+{
+    let refusal = week.refusal;
+    let counts = week.counts;
+    let by_number = counts.numbers;
+    CarmWeek {
+        number: refusal.number as u64,
+        place: refusal.place as u64,
+        second: refusal.second as u64,
+        silent: counts.silent,
+        bury: counts.bury,
+        keep: counts.keep,
+        clash: counts.clash,
+        refused: counts.refused,
+        by_number,
     }
 }

@@ -177,6 +177,23 @@ fn speak_set(operands: &[u8]) {
     writing::text(b"\n");
 }
 
+fn count_week(operands: &[u8]) {
+    let mut batch = [0u8; MOST];
+    let mut voice = [0u8; MOST];
+    let n = bytes(word(operands), &mut batch);
+    let v = bytes(word(rest(operands)), &mut voice);
+    let reply = carmuspeno::carm_count_week(&batch[..n], &voice[..v]);
+    writing::three(reply.number, reply.place, reply.second);
+    writing::next(reply.silent);
+    writing::next(reply.bury);
+    writing::next(reply.keep);
+    writing::next(reply.clash);
+    writing::next(reply.refused);
+    let by_number = reply.by_number;
+    writing::numbers(by_number);
+    writing::text(b"\n");
+}
+
 // One line.
 pub fn call(line: &[u8]) {
     let name = word(line);
@@ -210,6 +227,9 @@ pub fn call(line: &[u8]) {
     }
     if same(name, b"speak_set") {
         return speak_set(operands);
+    }
+    if same(name, b"count_week") {
+        return count_week(operands);
     }
     writing::text(b"?\n");
 }

@@ -30,6 +30,15 @@ pub fn situation(s: CarmSituation) {
     }
 }
 
+// The counts by number.
+pub fn numbers(by_number: [u64; 32]) {
+    let mut i = 0;
+    while i < 32 {
+        next(by_number[i]);
+        i += 1;
+    }
+}
+
 // The whole line of a reply that answers.
 pub fn answer(reply: CarmAnswer) {
     three(reply.number, reply.place, reply.second);

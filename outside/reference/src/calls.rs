@@ -8,6 +8,7 @@ use crate::notices;
 use crate::refusals::Refusal;
 use crate::situations::Situation;
 use crate::voices;
+use crate::weeks::{self, Week};
 
 pub fn hex(bytes: &[u8]) -> String {
     if bytes.is_empty() {
@@ -16,9 +17,13 @@ pub fn hex(bytes: &[u8]) -> String {
     bytes.iter().map(|byte| format!("{byte:02x}")).collect()
 }
 
-fn unhex(word: &str) -> Vec<u8> {
+/// The bytes of a word. Those of `WORDxN` are repeated N times: batches that are too long for a line are written so.
+pub fn unhex(word: &str) -> Vec<u8> {
     if word == "-" {
         return Vec::new();
+    }
+    if let Some((repeated, times)) = word.split_once('x') {
+        return unhex(repeated).repeat(number(times));
     }
     let digits = word.as_bytes().chunks(2);
     digits.map(|pair| u8::from_str_radix(std::str::from_utf8(pair).unwrap(), 16).expect("hex digits")).collect()
@@ -57,6 +62,13 @@ fn heard_line(reply: Result<voices::Set, Refusal>) -> String {
     }
 }
 
+/// The counts stand beside a refusal too.
+fn week_line(week: &Week) -> String {
+    let counts = [week.silent, week.bury, week.keep, week.clash, week.refused];
+    let words: Vec<String> = counts.iter().chain(&week.by_number).map(u64::to_string).collect();
+    line(week.refusal.unwrap_or(NO_REFUSAL), &words.join(" "))
+}
+
 /// The reply to one call.
 pub fn reply(call: &str) -> String {
     let words: Vec<&str> = call.split(' ').collect();
@@ -71,6 +83,7 @@ pub fn reply(call: &str) -> String {
         },
         ["speak", notice, voice] => answer_line(voices::speak(&unhex(notice), &unhex(voice))),
         ["speak_set", notice, voice] => heard_line(voices::speak_set(&unhex(notice), &unhex(voice))),
+        ["count_week", batch, voice] => week_line(&weeks::count(&unhex(batch), &unhex(voice))),
         [operator, p] => operator_line(operator, [number(p)]),
         [operator, p, q] => operator_line(operator, [number(p), number(q)]),
         [operator, x, p, q] => operator_line(operator, [number(x), number(p), number(q)]),

@@ -1,14 +1,16 @@
-//! An implementation of document 01 with request K1 of document 02, sharing nothing with the proved crates but the documents.
+//! An implementation of document 01 with requests K1 and K2 of document 02, sharing nothing with the proved crates but the documents.
 //!
 //! It is written to be read beside the document: orders are searched, not tabulated, a voice is read into a tree
 //! before it is answered, and the growth check evaluates the array once per situation. What it replies to a call is
 //! what the proved programs are held to.
 
 pub mod answers;
+pub mod batches;
 pub mod calls;
 pub mod compile;
 pub mod growth;
 pub mod listed;
+pub mod listed_weeks;
 pub mod nodes;
 pub mod notices;
 pub mod random;
@@ -18,3 +20,5 @@ pub mod tablecheck;
 pub mod tables;
 pub mod valid;
 pub mod voices;
+pub mod weekcount;
+pub mod weeks;

@@ -3,6 +3,7 @@
 
 use crate::calls::hex;
 use crate::compile::nodes_of;
+use crate::listed_weeks;
 use crate::notices::Fact;
 use crate::tables;
 use crate::valid::{field, notice_bytes, table_bytes};
@@ -32,6 +33,7 @@ pub fn calls() -> Vec<String> {
         after_presence(),
         refusals_of_sets(),
         written_out(),
+        listed_weeks::calls(),
     ]
     .concat()
 }
@@ -403,7 +405,7 @@ fn only_steps() -> Vec<String> {
     calls
 }
 
-fn rising(facts: u16) -> Vec<Fact> {
+pub fn rising(facts: u16) -> Vec<Fact> {
     (0..facts).map(|number| Fact { number: number * 3, value: u32::from(number) }).collect()
 }
 
@@ -563,7 +565,7 @@ fn when(test: &[u8], policy: &[u8]) -> Vec<u8> {
 
 /// A voice that may answer what the set has and nothing else: each answer where its own comparison is true and no earlier
 /// one is, the last where none is. Silent comes last, since priority passes over it.
-fn may_answer(set: u8) -> Vec<u8> {
+pub fn may_answer(set: u8) -> Vec<u8> {
     let mut answers = [1, 2, 3, 0].into_iter().filter(|answer| set >> answer & 1 == 1).rev();
     let last = vec![answers.next().expect("a set of one to four answers")];
     answers.fold(last, |rest, answer| [&[18], &when(&ABSENT, &[answer])[..], &rest].concat())

@@ -1,33 +1,50 @@
-//! reference calls            the calls that are stored
-//! reference random N SEED    N random calls
-//! reference reply            the replies to the calls on standard input
-//! reference tablecheck       what the program tablecheck prints for this standard input
+//! reference calls                     the calls that are stored
+//! reference random N SEED             N random calls
+//! reference reply                     the replies to the calls on standard input
+//! reference tablecheck                what the program tablecheck prints for this standard input
+//! reference weekcount BATCH VOICE..   what the program weekcount prints for these files
+//! reference batch N [SEED]            a batch of N notices of 32 facts each, the values random
 
 use reference::random::Random;
-use reference::{calls, listed, random, tablecheck};
+use reference::{calls, listed, random, tablecheck, valid, weekcount};
+use std::fs;
 use std::io::{self, BufRead, BufWriter, Read, Write};
 use std::process::ExitCode;
 
-/// The stored calls: those that are named, then this many random ones.
+/// The stored calls: those that are named, then this many random ones, then this many random weeks.
 const STORED: usize = 6000;
+const STORED_WEEKS: usize = 500;
 const STORED_SEED: u64 = 1;
 
+fn stored_calls() -> impl Iterator<Item = String> {
+    let [mut random, mut random_2] = [Random::new(STORED_SEED), Random::new(STORED_SEED)];
+    let random_calls = (0..STORED).map(move |_| random::call(&mut random));
+    let random_weeks = (0..STORED_WEEKS).map(move |_| random::week(&mut random_2));
+    listed::calls().into_iter().chain(random_calls).chain(random_weeks)
+}
+
+/// One in ten is a week.
 fn random_calls(wanted: usize, seed: u64) -> impl Iterator<Item = String> {
     let mut random = Random::new(seed);
-    (0..wanted).map(move |_| random::call(&mut random))
+    (0..wanted).map(move |at| if at % 10 == 9 { random::week(&mut random) } else { random::call(&mut random) })
 }
 
 fn main() -> ExitCode {
     let arguments: Vec<String> = std::env::args().skip(1).collect();
     let words: Vec<&str> = arguments.iter().map(String::as_str).collect();
     let done = match words[..] {
-        ["calls"] => print(listed::calls().into_iter().chain(random_calls(STORED, STORED_SEED))),
+        ["calls"] => print(stored_calls()),
         ["random", wanted, seed] => match (wanted.parse(), seed.parse()) {
             (Ok(wanted), Ok(seed)) => print(random_calls(wanted, seed)),
             _ => return usage(),
         },
         ["reply"] => print(io::stdin().lock().lines().map(|line| calls::reply(&line.expect("a line of text")))),
         ["tablecheck"] => print_tablecheck(),
+        ["weekcount", batch, ref voices @ ..] if !voices.is_empty() => print_weekcount(batch, voices),
+        ["batch", wanted, ref seed @ ..] if seed.len() <= 1 => match (wanted.parse(), seed.first().unwrap_or(&"1").parse()) {
+            (Ok(wanted), Ok(seed)) => write_batch(wanted, seed),
+            _ => return usage(),
+        },
         _ => return usage(),
     };
     match done {
@@ -40,7 +57,7 @@ fn main() -> ExitCode {
 }
 
 fn usage() -> ExitCode {
-    eprintln!("reference calls | random N SEED | reply | tablecheck");
+    eprintln!("reference calls | random N SEED | reply | tablecheck | weekcount BATCH VOICE.. | batch N [SEED]");
     ExitCode::from(2)
 }
 
@@ -56,4 +73,21 @@ fn print_tablecheck() -> io::Result<()> {
     let mut input = Vec::new();
     io::stdin().lock().read_to_end(&mut input)?;
     io::stdout().lock().write_all(tablecheck::text(&input).as_bytes())
+}
+
+fn print_weekcount(batch: &str, voices: &[&str]) -> io::Result<()> {
+    let batch = fs::read(batch)?;
+    let named = |name: &&str| Ok((name.to_string(), fs::read(name)?));
+    let voices = voices.iter().map(named).collect::<io::Result<Vec<_>>>()?;
+    io::stdout().lock().write_all(weekcount::text(&batch, &voices).as_bytes())
+}
+
+fn write_batch(wanted: usize, seed: u64) -> io::Result<()> {
+    let mut random = Random::new(seed);
+    let mut out = BufWriter::new(io::stdout().lock());
+    for _ in 0..wanted {
+        let facts = valid::rising(&mut random, 32);
+        out.write_all(&valid::field(17, &valid::notice_bytes(&facts)))?;
+    }
+    out.flush()
 }

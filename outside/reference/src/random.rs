@@ -2,6 +2,7 @@
 
 use crate::calls::hex;
 use crate::compile::nodes_of;
+use crate::notices::Fact;
 use crate::tables;
 use crate::valid;
 
@@ -64,11 +65,12 @@ pub fn call(random: &mut Random) -> String {
     }
 }
 
-/// Bytes that mean something in a table, an array, a notice and a voice.
+/// Bytes that mean something in a table, an array, a notice, a batch and a voice.
 const IN_TABLES: &[u8] = &[0, 1, 2, 3, 4, 5, 6, 7];
 const IN_NODES: &[u8] = &[0, 1, 2, 3, 4, 5, 5, 6, 6, 7, 7, 16, 16, 17, 18, 19, 20, 21, 22, 8, 15];
 const IN_SITUATIONS: &[u8] = &[0, 1, 2, 3, 4];
 const IN_NOTICES: &[u8] = &[0, 0, 1, 6, 6, 16, 16, 255];
+const IN_BATCHES: &[u8] = &[0, 0, 1, 6, 9, 16, 17, 17, 17, 32, 33, 255];
 const IN_VOICES: &[u8] = &[
     0, 1, 2, 3, 4, 8, 9, 10, 11, 12, 13, 14, 15, 16, 17, 18, 19, 20, 21, 22, 23, 24, 24, 24, 25, 40, 41, 42, 43, 44, 45, 46, 47,
     48, 49, 50, 51, 52,
@@ -289,4 +291,44 @@ fn voice(call: &str, random: &mut Random, distance: Distance) -> String {
         disturb_one_of(random, [(&mut voice, IN_VOICES), (&mut notice, IN_NOTICES)], distance);
     }
     format!("{call} {} {}", hex(&notice), hex(&voice))
+}
+
+/// No longer than the longest argument of a call.
+const LONGEST_BATCH: usize = 4300;
+
+/// Notices that are lawful, nearly so or broken, in a batch that is so too, and a voice that mostly is lawful.
+pub fn week(random: &mut Random) -> String {
+    let distance = random.pick(&[Distance::Valid, Distance::Valid, Distance::OneByte, Distance::Far]);
+    let facts = valid::facts(random);
+    let wanted = if random.one_in(8) { random.below(60) } else { random.below(12) };
+    let mut batch = Vec::new();
+    for _ in 0..wanted {
+        let notice = week_notice(random, &facts);
+        if batch.len() + 3 + notice.len() < LONGEST_BATCH - 8 {
+            batch.extend(valid::field(17, &notice));
+        }
+    }
+    disturb(random, &mut batch, distance, IN_BATCHES);
+    let voice = match random.below(12) {
+        0 | 1 => {
+            let mut voice = valid::voice(random, &facts);
+            edit(random, &mut voice, IN_VOICES);
+            voice
+        }
+        2 => {
+            let levels = 14 + random.below(6);
+            valid::voice_of(random, &facts, levels, true)
+        }
+        _ => valid::voice(random, &facts),
+    };
+    format!("count_week {} {}", hex(&batch), hex(&voice))
+}
+
+/// Mostly lawful, since a batch has many.
+fn week_notice(random: &mut Random, facts: &[Fact]) -> Vec<u8> {
+    let mut notice = valid::notice_bytes(&valid::moved(random, facts));
+    let distance =
+        random.pick(&[Distance::Valid, Distance::Valid, Distance::Valid, Distance::Valid, Distance::OneByte, Distance::Far]);
+    disturb(random, &mut notice, distance, IN_NOTICES);
+    notice
 }

@@ -1,4 +1,4 @@
-//! The numbers a caller gets: what was refused, and where. Number 15 is unused.
+//! The numbers a caller gets: what was refused, and where. Numbers 15 and 22 to 27 are unused.
 
 pub const SHORT: u64 = 1;
 pub const START: u64 = 2;
@@ -20,6 +20,7 @@ pub const NEST: u64 = 18;
 pub const TAIL: u64 = 19;
 pub const RISE: u64 = 20;
 pub const FACTS: u64 = 21;
+pub const WEEK: u64 = 28;
 
 #[derive(Clone, Copy, PartialEq, Eq, Debug)]
 pub struct Refusal {

@@ -1,4 +1,4 @@
-//! Lawful tables, node arrays, notices and voices, drawn at random.
+//! Lawful tables, node arrays, notices, batches and voices, drawn at random.
 
 use crate::nodes::{COLUMN_0, JOIN, MEET, NEGATE, TURN};
 use crate::notices::Fact;
@@ -144,6 +144,20 @@ pub fn notice_bytes(facts: &[Fact]) -> Vec<u8> {
 pub fn sent(random: &mut Random, facts: &[Fact]) -> Vec<Fact> {
     let out_of_four = random.pick(&[0, 1, 2, 4]);
     facts.iter().copied().filter(|_| random.below(4) < out_of_four).collect()
+}
+
+/// The bytes of a batch: a field for each notice.
+pub fn batch_bytes<T: AsRef<[u8]>>(notices: &[T]) -> Vec<u8> {
+    notices.iter().flat_map(|notice| field(17, notice.as_ref())).collect()
+}
+
+/// A notice of some of these facts, some of their values moved to the next.
+pub fn moved(random: &mut Random, facts: &[Fact]) -> Vec<Fact> {
+    let mut facts = sent(random, facts);
+    for fact in &mut facts {
+        fact.value = fact.value.wrapping_add(random.pick(&[0, 0, 1, u32::MAX]));
+    }
+    facts
 }
 
 /// A voice of at most 16 levels that mostly asks for these facts, with values equal or beside theirs.

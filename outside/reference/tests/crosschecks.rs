@@ -1,15 +1,17 @@
 //! What the documents say twice, held against itself: by another count, by all pairs, by all situations, by all choices.
 
 use reference::answers::{self, contained, Answer, ALL};
-use reference::calls::reply;
+use reference::calls::{reply, unhex};
 use reference::compile::nodes_of;
 use reference::listed::calls;
 use reference::nodes::run;
 use reference::notices::{look_up, Fact};
-use reference::random::Random;
+use reference::random::{self, Random};
+use reference::refusals::{Refusal, CODE, CUT, LEN, NEST, RISE, SHORT, TAG, TAIL, WEEK};
 use reference::situations::{from_index, index};
 use reference::tables::{self, Table};
-use reference::{growth, valid, voices};
+use reference::weeks::{self, Week};
+use reference::{batches, growth, valid, voices, weekcount};
 use std::collections::BTreeSet;
 
 fn situations(columns: usize) -> Vec<Vec<Answer>> {
@@ -284,6 +286,19 @@ fn every_set_is_among_the_named_calls() {
     assert_eq!(sets, (0..=15).collect());
 }
 
+#[test]
+fn every_count_is_among_the_named_calls() {
+    let mut counted = BTreeSet::new();
+    for call in calls().iter().filter(|call| call.starts_with("count_week")) {
+        let reply = reply(call);
+        let numbers: Vec<u64> = reply.split(' ').skip(3).map(|word| word.parse().unwrap()).collect();
+        assert_eq!(numbers.len(), 5 + 32, "{call}");
+        counted.extend((0..numbers.len()).filter(|&at| numbers[at] > 0));
+    }
+    let by_number = [SHORT, TAG, LEN, CODE, CUT, NEST, TAIL, RISE].map(|number| 5 + number as usize);
+    assert_eq!(counted, (0..5).chain(by_number).collect());
+}
+
 /// The refusal numbers that the named calls bring out, by the name of the call.
 #[test]
 fn every_refusal_is_among_the_named_calls() {
@@ -302,4 +317,129 @@ fn every_refusal_is_among_the_named_calls() {
     assert_eq!(of("notice"), [0, 1, 3, 4, 20, 21]);
     assert_eq!(of("speak"), [0, 1, 3, 4, 16, 17, 18, 19, 20, 21]);
     assert_eq!(of("speak_set"), [0, 1, 3, 4, 16, 17, 18, 19, 20, 21]);
+    // WEEK takes a batch that is too long for a line
+    assert_eq!(of("count_week"), [0, 1, 3, 4]);
+}
+
+/// A random batch as the calls have it, cut or not, and its voice.
+fn random_week(random: &mut Random) -> (Vec<u8>, Vec<u8>) {
+    let call = random::week(random);
+    let words: Vec<Vec<u8>> = call.split(' ').skip(1).map(unhex).collect();
+    (words[0].clone(), words[1].clone())
+}
+
+#[test]
+fn the_totals_add_up() {
+    let mut random = Random::new(8);
+    let (mut refused_batches, mut numbers) = (0, BTreeSet::new());
+    for _ in 0..20_000 {
+        let (batch, voice) = random_week(&mut random);
+        let read = batches::read(&batch);
+        let week = weeks::count(&batch, &voice);
+        assert_eq!(week.silent + week.bury + week.keep + week.clash + week.refused, read.notices.len() as u64);
+        assert_eq!(week.by_number.iter().sum::<u64>(), week.refused);
+        refused_batches += usize::from(week.refusal.is_some());
+        numbers.extend((0..32).filter(|&number| week.by_number[number] > 0));
+    }
+    assert!(refused_batches > 2000);
+    // no FACTS: a 33rd fact does not fit a field
+    assert_eq!(numbers, [SHORT, TAG, LEN, CODE, CUT, NEST, TAIL, RISE].map(|number| number as usize).into());
+}
+
+/// Another count: notice by notice, by what speak replies to each.
+#[test]
+fn a_week_is_what_speak_replies_to_each_notice() {
+    let mut random = Random::new(9);
+    for _ in 0..5000 {
+        let (batch, voice) = random_week(&mut random);
+        let mut counted = Week { refusal: None, silent: 0, bury: 0, keep: 0, clash: 0, refused: 0, by_number: [0; 32] };
+        let read = batches::read(&batch);
+        for notice in &read.notices {
+            match voices::speak(notice, &voice) {
+                Ok(Answer::Silent) => counted.silent += 1,
+                Ok(Answer::Bury) => counted.bury += 1,
+                Ok(Answer::Keep) => counted.keep += 1,
+                Ok(Answer::Clash) => counted.clash += 1,
+                Err(refusal) => {
+                    counted.refused += 1;
+                    counted.by_number[refusal.number as usize] += 1;
+                }
+            }
+        }
+        counted.refusal = read.refusal;
+        assert_eq!(weeks::count(&batch, &voice), counted);
+    }
+}
+
+/// The notices read are the batch's bytes up to the refused field, and that field is refused wherever it stands first.
+#[test]
+fn what_is_read_is_the_batch_up_to_its_refusal() {
+    let mut random = Random::new(10);
+    for _ in 0..20_000 {
+        let (batch, _) = random_week(&mut random);
+        let read = batches::read(&batch);
+        let fields = valid::batch_bytes(&read.notices);
+        assert!(batch.starts_with(&fields));
+        match read.refusal {
+            None => assert_eq!(fields.len(), batch.len()),
+            Some(refusal) => {
+                assert_eq!((refusal.place, refusal.second), (fields.len() as u64, 0));
+                let alone = batches::read(&batch[fields.len()..]);
+                assert_eq!((alone.notices.len(), alone.refusal), (0, Some(Refusal { place: 0, ..refusal })));
+            }
+        }
+    }
+}
+
+#[test]
+fn a_batch_cut_between_two_fields_gives_the_sum() {
+    let mut random = Random::new(11);
+    let mut cut = 0;
+    for _ in 0..5000 {
+        let (batch, voice) = random_week(&mut random);
+        let read = batches::read(&batch);
+        let at = valid::batch_bytes(&read.notices[..random.below(read.notices.len() + 1)]).len();
+        let [whole, first, second] = [&batch[..], &batch[..at], &batch[at..]].map(|part| weeks::count(part, &voice));
+        assert_eq!(first.refusal, None);
+        // the second part's places are counted from the cut
+        assert_eq!(second.refusal.map(|refusal| Refusal { place: refusal.place + at as u64, ..refusal }), whole.refusal);
+        let counts = |week: &Week| {
+            let by_number = week.by_number.into_iter();
+            [week.silent, week.bury, week.keep, week.clash, week.refused].into_iter().chain(by_number).collect::<Vec<u64>>()
+        };
+        let sum: Vec<u64> = counts(&first).iter().zip(counts(&second)).map(|(a, b)| a + b).collect();
+        assert_eq!(sum, counts(&whole));
+        cut += usize::from(0 < at && at < batch.len());
+    }
+    assert!(cut > 2000);
+}
+
+#[test]
+fn week_is_the_notice_after_a_million() {
+    let million = [17, 0, 0].repeat(1_000_000);
+    let of = |last: &[u8]| {
+        let week = weeks::count(&[&million[..], last].concat(), &[2]);
+        assert_eq!((week.keep, week.refused), (1_000_000, 0));
+        week.refusal.map(|refusal| (refusal.number, refusal.place))
+    };
+    assert_eq!(of(&[]), None);
+    // after SHORT header and TAG, before LEN and SHORT value
+    assert_eq!(of(&[17, 0]), Some((SHORT, 3_000_000)));
+    assert_eq!(of(&[16, 0, 0]), Some((TAG, 3_000_000)));
+    assert_eq!(of(&[17, 0, 0]), Some((WEEK, 3_000_000)));
+    assert_eq!(of(&[17, 1, 33]), Some((WEEK, 3_000_000)));
+    assert_eq!(of(&[17, 0, 9]), Some((WEEK, 3_000_000)));
+    let week = weeks::count(&million[3..], &[1]);
+    assert_eq!((week.bury, week.refusal), (999_999, None));
+}
+
+/// The lines of the program: every number that occurred, rising, and the batch's refusal last.
+#[test]
+fn weekcount_prints_each_voice_then_the_refusal() {
+    let batch = [17, 0, 0, 17, 0, 1, 16, 17, 0, 3, 0, 0, 0, 17];
+    let voices = [("keep.voice".to_string(), vec![2]), ("-".to_string(), vec![])];
+    let printed = "voice keep.voice\nsilent 0\nbury 0\nkeep 1\nclash 0\nrefused 2\nrefused 1 1\nrefused 3 1\n\
+                   voice -\nsilent 0\nbury 0\nkeep 0\nclash 0\nrefused 3\nrefused 1 1\nrefused 3 1\nrefused 17 1\n\
+                   batch refused 1 13 0\n";
+    assert_eq!(weekcount::text(&batch, &voices), printed);
 }
