@@ -23,6 +23,8 @@ use Rattle.notices.specs.declared.Noticed.{Noticed}
 use Rattle.notices.specs.Meaning.{noticeOf}
 use Rattle.voices.specs.declared.Heard.{Heard}
 use Rattle.voices.specs.Meaning.{unheard, hearOf, speakOf}
+use Rattle.batches.specs.Meaning.{MOST}
+use Rattle.weeks.specs.Meaning.{weekOf}
 use Rattle.tables.specs.declared.TableRead.{TableRead}
 use Rattle.tables.specs.Meaning.{tableOf, refuseTable, readOf, Table, WellFormed, Consistent, tableBytes, FirstDisagreement}
 use Rattle.nodes.specs.Meaning.{evaluateOf, full, heights}
@@ -37,6 +39,8 @@ use Rattle.replying.proofs.TableNumbers.{readOf-read, short-room}
 use Rattle.replying.proofs.NodeNumbers.{faultOf-numbers, answers-succeed, answers-after, evaluateOf-answers, operand-numbers, columns-outside, growth-outside}
 use Rattle.replying.proofs.VoiceNumbers.{noticeOf-notices, hearOf-hears, speakOf-answers}
 use Rattle.replying.specs.Meaning.{Replied, refuseReply, refuseRelated, refuseNoticed, refuseGrowth, handBack}
+use Rattle.counting.proofs.Ends.{accepted-none}
+use Rattle.counting.proofs.Stops as stops
 use Rattle.accepting.proofs.FirstDisagreements.{first-inconsistent}
 use Rattle.accepting.proofs.TableEncoding.{write-table, read-write, read-formed, read-consistent, write-overlap, overlap-write, overlap-formed, overlap-named}
 use Rattle.compiler.proofs.CompileReturns.{written-refused}
@@ -44,7 +48,7 @@ use Rattle.running.proofs.Heights.{evaluate-heights, evaluate-alike}
 use Rattle.refusals.specs.declared.Refusal.{Refusal}
 use Rattle.growing.proofs.Verdicts as verdicts
 use Rattle.situations.proofs.Replies.{merged-refused}
-use Rattle.promises.specs.Meaning.{Accepts, Compiles}
+use Rattle.promises.specs.Meaning.{Accepts, Compiles, WeekReplied}
 use Rattle.promises.proofs.Demand2Tables.{accepted-exactly}
 
 -- The operators.
@@ -94,6 +98,16 @@ speak-set-replied = hearOf-hears
 
 pub speak-replied : (n v : List ℕ) → Replied (λ (x : Reply). x .refusal) refuseReply (speakOf n v)
 speak-replied = speakOf-answers
+
+-- Weekly counts: the numbers as in every reply. "The counts so far are still handed back as a value, the one exception to document 01's
+-- zeros": so here is nothing on what a refusal returns besides its numbers.
+pub week-replied : (batch voice : List ℕ) → WeekReplied (weekOf batch voice .refusal)
+week-replied batch voice =
+    record {
+      success = accepted-none MOST 0 batch;
+      refused = stops.stop-published MOST batch;
+      second = stops.stop-second MOST batch;
+    }
 
 -- Reading and compiling tables.
 pub read-replied : (bytes : List ℕ) → Replied (λ (x : TableRead). x .refusal) refuseTable (readOf bytes)

@@ -31,6 +31,9 @@ use Rattle.text.proofs.put_refusal as text-put-refusal
 use Rattle.lines.proofs.put_counts as lines-put-counts
 use Rattle.lines.proofs.put_growth as lines-put-growth
 use Rattle.judging.proofs.judge as judging-judge
+use Rattle.reports.proofs.put_record as reports-put-record
+use Rattle.reports.proofs.put_batch as reports-put-batch
+use Rattle.input.proofs.move_front as input-move-front
 use Rattle.face.proofs.answer_face as face-answer
 use Rattle.face.proofs.one as face-one
 use Rattle.face.proofs.two as face-two
@@ -41,6 +44,7 @@ use Rattle.face.proofs.merged_face as face-merged
 use Rattle.face.proofs.growth_face as face-growth
 use Rattle.face.proofs.noticed_face as face-noticed
 use Rattle.face.proofs.heard_face as face-heard
+use Rattle.face.proofs.week_face as face-week
 
 pub rows-row-count-determined : Determined rows-row-count.Kinds.ps rows-row-count.Kinds.r rows-row-count.Reads.Post
 rows-row-count-determined = record { result = λ κs a x y s t p q. p ∙ sym q }
@@ -155,3 +159,24 @@ face-noticed-determined = record { result = λ κs a x y s t p q. p ∙ sym q }
 
 pub face-heard-determined : Determined face-heard.Kinds.ps face-heard.Kinds.r face-heard.Reads.Post
 face-heard-determined = record { result = λ κs a x y s t p q. p ∙ sym q }
+
+pub face-week-determined : Determined face-week.Kinds.ps face-week.Kinds.r face-week.Reads.Post
+face-week-determined = record { result = λ κs a x y s t p q. p ∙ sym q }
+
+pub reports-put-record-determined :
+    DeterminedLent reports-put-record.Kinds.ps reports-put-record.Kinds.r reports-put-record.Reads.Post (λ κs s. now (s .0))
+reports-put-record-determined =
+    record { result = λ κs a x y s t p q. p .ends ∙ sym (q .ends); lent = λ κs a x y s t p q. p .holds ∙ sym (q .holds) }
+
+pub reports-put-batch-determined :
+    DeterminedLent reports-put-batch.Kinds.ps reports-put-batch.Kinds.r reports-put-batch.Reads.Post (λ κs s. now (s .0))
+reports-put-batch-determined =
+    record { result = λ κs a x y s t p q. p .ends ∙ sym (q .ends); lent = λ κs a x y s t p q. p .holds ∙ sym (q .holds) }
+
+pub input-move-front-determined :
+    DeterminedLent input-move-front.Kinds.ps input-move-front.Kinds.r input-move-front.Reads.Post (λ κs s. now (s .0))
+input-move-front-determined =
+    record {
+      result = λ κs a x y s t p q. p .all ∙ sym (q .all);
+      lent = λ κs a x y s t p q. p .holds ∙ (rw (p .all ∙ sym (q .all)) (sym (q .holds)));
+    }

@@ -1,4 +1,4 @@
--- Each public function's contract determines what it returns: no two different results satisfy it. Here: speakers.
+-- Each public function's contract determines what it returns: no two different results satisfy it. Here: speakers, and weekly counts.
 use mathlib.Core.Path.{sym, _∙_}
 use Rattle.promises.specs.Meaning.{Determined}
 use Rattle.notices.proofs.read_notice as notices-read-notice
@@ -22,6 +22,12 @@ use Rattle.leaves.proofs.present_at as leaves-present-at
 use Rattle.policies.proofs.policy as policies-policy
 use Rattle.voices.proofs.speak_set as voices-speak-set
 use Rattle.voices.proofs.speak as voices-speak
+use Rattle.batches.proofs.fault as batches-fault
+use Rattle.batches.proofs.walk as batches-walk
+use Rattle.counts.proofs.none as counts-none
+use Rattle.counts.proofs.count_notice as counts-count-notice
+use Rattle.weeks.proofs.count_onto as weeks-count-onto
+use Rattle.weeks.proofs.count_week as weeks-count-week
 
 pub notices-read-notice-determined : Determined notices-read-notice.Kinds.ps notices-read-notice.Kinds.r notices-read-notice.Reads.Post
 notices-read-notice-determined = record { result = λ κs a x y s t p q. p ∙ sym q }
@@ -85,3 +91,21 @@ voices-speak-set-determined = record { result = λ κs a x y s t p q. p ∙ sym 
 
 pub voices-speak-determined : Determined voices-speak.Kinds.ps voices-speak.Kinds.r voices-speak.Reads.Post
 voices-speak-determined = record { result = λ κs a x y s t p q. p ∙ sym q }
+
+pub batches-fault-determined : Determined batches-fault.Kinds.ps batches-fault.Kinds.r batches-fault.Reads.Post
+batches-fault-determined = record { result = λ κs a x y s t p q. p ∙ sym q }
+
+pub batches-walk-determined : Determined batches-walk.Kinds.ps batches-walk.Kinds.r batches-walk.Reads.Post
+batches-walk-determined = record { result = λ κs a x y s t p q. p ∙ sym q }
+
+pub counts-none-determined : Determined counts-none.Kinds.ps counts-none.Kinds.r counts-none.Reads.Post
+counts-none-determined = record { result = λ κs a x y s t p q. p ∙ sym q }
+
+pub counts-count-notice-determined : Determined counts-count-notice.Kinds.ps counts-count-notice.Kinds.r counts-count-notice.Reads.Post
+counts-count-notice-determined = record { result = λ κs a x y s t p q. p ∙ sym q }
+
+pub weeks-count-onto-determined : Determined weeks-count-onto.Kinds.ps weeks-count-onto.Kinds.r weeks-count-onto.Reads.Post
+weeks-count-onto-determined = record { result = λ κs a x y s t p q. p ∙ sym q }
+
+pub weeks-count-week-determined : Determined weeks-count-week.Kinds.ps weeks-count-week.Kinds.r weeks-count-week.Reads.Post
+weeks-count-week-determined = record { result = λ κs a x y s t p q. p ∙ sym q }

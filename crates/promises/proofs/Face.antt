@@ -20,6 +20,7 @@ use Rattle.carmuspeno.proofs.carm_merge as merge
 use Rattle.carmuspeno.proofs.carm_read_notice as read-notice
 use Rattle.carmuspeno.proofs.carm_speak as speak
 use Rattle.carmuspeno.proofs.carm_speak_set as speak-set
+use Rattle.carmuspeno.proofs.carm_count_week as count-week
 use Rattle.carmuspeno.proofs.carm_check_growth as check-growth
 use Rattle.carmuspeno.proofs.carm_compile as compile
 
@@ -130,6 +131,12 @@ carm-speak-set-determined = record { result = λ κs a x y s t p q. p ∙ sym q 
 
 pub carm-speak-set-asks-nothing : AsksNothing speak-set.Kinds.ps speak-set.Reads.Pre
 carm-speak-set-asks-nothing = record { met = λ κs a. tt }
+
+pub carm-count-week-determined : Determined count-week.Kinds.ps count-week.Kinds.r count-week.Reads.Post
+carm-count-week-determined = record { result = λ κs a x y s t p q. p ∙ sym q }
+
+pub carm-count-week-asks-nothing : AsksNothing count-week.Kinds.ps count-week.Reads.Pre
+carm-count-week-asks-nothing = record { met = λ κs a. tt }
 
 pub carm-check-growth-determined : Determined check-growth.Kinds.ps check-growth.Kinds.r check-growth.Reads.Post
 carm-check-growth-determined = record { result = λ κs a x y s t p q. p ∙ sym q }

@@ -2,6 +2,9 @@ pub mod Demand1
 pub mod Demand2Tables
 pub mod Demand2Voices
 pub mod Absent
+pub mod Weeks
+pub mod Batches
+pub mod WeeksPrinted
 pub mod Demand3
 pub mod Demand3Merging
 pub mod Demand3Printed

@@ -9,7 +9,10 @@ use borrow.Kind.ShrSlice.{rShrS}
 use borrow.Table.Referent.{rtF, fInt}
 use mir.Syntax.{w8}
 use denote.Ref.{now}
+use lib.Dec.{T}
 use lib.ListN.{length, take, replicate}
+use Rattle.refusals.specs.declared.Refusal.{Refusal}
+use Rattle.refusals.specs.Meaning.{none}
 use Rattle.answers.specs.declared.Answer.the-variants.{Silent, Bury}
 use Rattle.situations.specs.declared.Situation.{Situation}
 use Rattle.situations.specs.Meaning.{mergeOf}
@@ -17,6 +20,7 @@ use Rattle.rows.specs.Meaning.{is, any}
 use Rattle.tables.specs.Meaning.{Table, readOf, tableOf}
 use Rattle.formula.specs.Meaning.{tableNodes}
 use Rattle.compiler.specs.Meaning.{compileOf, writtenOf}
+use Rattle.replying.specs.Meaning.{published}
 
 -- "Prove that any two outcomes allowed by it are equal": the results of a function that lends out no memory to be written.
 -- `Post` is the function's own contract: its `ensures`, of the arguments, the result and the arguments at exit.
@@ -144,3 +148,9 @@ largeText =
     ++ (114 ∷ 111 ∷ 119 ∷ 115 ∷ 32 ∷ 54 ∷ 52 ∷ 10 ∷ [])
     ++ (110 ∷ 111 ∷ 100 ∷ 101 ∷ 115 ∷ 32 ∷ 51 ∷ 57 ∷ 10 ∷ [])
     ++ (103 ∷ 114 ∷ 111 ∷ 119 ∷ 116 ∷ 104 ∷ 32 ∷ 110 ∷ 111 ∷ 32 ∷ 48 ∷ 32 ∷ 48 ∷ 32 ∷ 48 ∷ 32 ∷ 48 ∷ 32 ∷ 99 ∷ 111 ∷ 108 ∷ 117 ∷ 109 ∷ 110 ∷ 32 ∷ 48 ∷ 32 ∷ 116 ∷ 111 ∷ 32 ∷ 49 ∷ 10 ∷ [])
+
+-- The numbers of a batch's refusal, which stand beside its counts.
+pub record WeekReplied (r : Refusal) : Type 0 where
+  pub success : r .number ≡ 0 → r ≡ none
+  pub refused : (r .number ≡ 0 → ⊥) → T (published (r .number))
+  pub second : r .second ≡ 0

@@ -28,7 +28,7 @@ use Rattle.growth.specs.Meaning.{growthOf}
 use Rattle.growing.proofs.Verdicts.{growth-silent}
 use Rattle.operands.specs.Meaning.{operandFault}
 use Rattle.replying.proofs.ReplyLaws.{either, Numbers, numbers-none, numbers-cond, numbers-refused, replied-success, replied-after, replied-fault}
-use Rattle.replying.specs.Meaning.{published, Replied, refuseReply}
+use Rattle.replying.specs.Meaning.{document01, Replied, refuseReply}
 
 -- a situation's check
 pub fault-numbers : (s : List ℕ) → Numbers (fault s)
@@ -70,7 +70,7 @@ module _ (P : ℕ → Type 0) (clear : P 0) (node : P NODE) (column : P COLUMN) 
   climb-each profile n Foreign height = node
 
 abbrev Named : ℕ → Type 0
-Named k = (k ≡ 0 → ⊥) → T (published k)
+Named k = (k ≡ 0 → ⊥) → T (document01 k)
 
 climb-named : (profile : Profile) (n : ℕ) (b : Node) (height : ℕ) → Named (climb profile n b height .fault)
 climb-named = climb-each Named (λ e. absurd (e refl)) (λ e. tt) (λ e. tt) (λ e. tt) (λ e. tt)

@@ -6,7 +6,7 @@ use lib.Dec.{T, eqb}
 use borrow.Author.Tests.{eqb-false}
 use Rattle.refusals.specs.Meaning.{none, refused, after, firstRefusal, OVERLAP}
 use Rattle.refusals.specs.declared.Refusal.{Refusal}
-use Rattle.replying.specs.Meaning.{published, Replied}
+use Rattle.replying.specs.Meaning.{document01, Replied}
 
 pub either : {A : Type 0} (P : A → Type 0) (b : Bool) (x y : A) → P x → P y → P (cond b x y)
 either P true x y h k = h
@@ -21,28 +21,28 @@ numbers-none = record { success = λ e. refl; refused = λ e. absurd (e refl); s
 
 -- a refusal by a published number
 abbrev pub Refuses : Refusal → Type 0
-Refuses r = T (published (r .number)) × (r .second ≡ 0)
+Refuses r = T (document01 (r .number)) × (r .second ≡ 0)
 
 pub refuses-loud : (r : Refusal) → Refuses r → r .number ≡ 0 → ⊥
-refuses-loud r h e = subst (λ (k : ℕ). T (published k)) e (h .0)
+refuses-loud r h e = subst (λ (k : ℕ). T (document01 k)) e (h .0)
 
 pub refuses-numbers : (r : Refusal) → Refuses r → Numbers r
 refuses-numbers r h =
     record { success = λ e. absurd (refuses-loud r h e); refused = λ e. h .0; second = λ e. h .1; nothing-else = λ e. refl }
 
-pub numbers-refused : (k p : ℕ) → T (published k) → Numbers (refused k p)
+pub numbers-refused : (k p : ℕ) → T (document01 k) → Numbers (refused k p)
 numbers-refused k p h = refuses-numbers (refused k p) (h, refl)
 
 pub numbers-overlap : (later earlier : ℕ) → Numbers (record { number = OVERLAP; place = later; second = earlier })
 numbers-overlap later earlier =
     record {
-      success = λ e. absurd (subst (λ (k : ℕ). T (published k)) e tt);
+      success = λ e. absurd (subst (λ (k : ℕ). T (document01 k)) e tt);
       refused = λ e. tt;
       second = λ e. absurd (e refl);
       nothing-else = λ e. refl;
     }
 
-pub numbers-cond : (b : Bool) (k p : ℕ) {r : Refusal} → T (published k) → Numbers r → Numbers (cond b (refused k p) r)
+pub numbers-cond : (b : Bool) (k p : ℕ) {r : Refusal} → T (document01 k) → Numbers r → Numbers (cond b (refused k p) r)
 numbers-cond b k p {r} h n = either Numbers b (refused k p) r (numbers-refused k p h) n
 
 -- the first of many checks
@@ -82,7 +82,7 @@ module _ {A : Type 0} (refusal : A → Refusal) (refuse : Refusal → A) where
     -- a check whose number alone is known, as a node's
     pub replied-fault :
         (k p : ℕ) (x : A) →
-        ((k ≡ 0 → ⊥) → T (published k)) →
+        ((k ≡ 0 → ⊥) → T (document01 k)) →
         Replied refusal refuse x →
         Replied refusal refuse (after (refused k p) refuse x)
     replied-fault k p x n h = go (eqb k 0) refl

@@ -1,0 +1,12 @@
+pub mod Totals
+pub mod Firsts
+pub mod Faults
+pub mod Ends
+pub mod Parts
+pub mod Cuts
+pub mod Written
+pub mod Records
+pub mod Windows
+pub mod Stops
+pub mod Sums
+pub mod Outcomes
