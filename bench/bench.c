@@ -11,10 +11,10 @@
 
 #include "carmuspeno.h"
 
-enum { MOST_NODES = 4223 };
+enum { MOST_NODES = 4223, NOTICES = 64 };
 
-static uint8_t table[1024], nodes[MOST_NODES], notice[32 * 9], voice[200];
-static size_t table_len, nodes_len, notice_len, voice_len;
+static uint8_t table[1024], nodes[MOST_NODES], notice[32 * 9], voice[200], batch[NOTICES * (3 + sizeof notice)];
+static size_t table_len, nodes_len, notice_len, voice_len, batch_len;
 
 /* a reply printed, but not on the stack that is measured */
 static int quiet;
@@ -123,6 +123,18 @@ static void absent_operators(void)
     voice[voice_len++] = 2;
 }
 
+/* a batch of equal notices of 32 facts, and the voice of sixteen levels of `when` */
+static void week_of_whens(void)
+{
+    nested_whens();
+    for (int field = 0; field < NOTICES; field++) {
+        const uint8_t head[] = { 17, (uint8_t)(notice_len >> 8), (uint8_t)notice_len };
+        memcpy(batch + batch_len, head, sizeof head);
+        memcpy(batch + batch_len + sizeof head, notice, notice_len);
+        batch_len += sizeof head + notice_len;
+    }
+}
+
 /* ---- jobs ---- */
 
 static void make_laptop_nodes(void) { compiled(laptop); }
@@ -182,6 +194,14 @@ static void do_speak_set(long repetitions)
     SAY("%" PRIu64 " %" PRIu64 " %" PRIu64 " %" PRIu64 "\n", r.number, r.place, r.set, r.answer);
 }
 
+/* repetitions are notices here, so that the count is that of one notice */
+static void do_count_week(long repetitions)
+{
+    carm_week r = { 0 };
+    for (; repetitions > 0; repetitions -= NOTICES) r = carm_count_week(batch, batch_len, voice, voice_len);
+    SAY("%" PRIu64 " %" PRIu64 " %" PRIu64 " %" PRIu64 "\n", r.number, r.place, r.keep, r.refused);
+}
+
 static void nothing(void) {}
 
 static void do_merge(long repetitions)
@@ -211,6 +231,7 @@ static const struct {
     { "speak-operators", "speak", "16 levels of operators, no fact", 500, nested_operators, do_speak },
     { "speak-absent-operators", "speak", "16 levels of operators, 32 facts, every compared fact absent", 200, absent_operators, do_speak },
     { "speak-set-whens", "speak_set", "16 levels of when, 32 facts", 200, nested_whens, do_speak_set },
+    { "week-whens", "count_week", "one notice of 64: 16 levels of when, 32 facts", 4 * NOTICES, week_of_whens, do_count_week },
     { "merge-six", "merge", "six columns", 5000, nothing, do_merge },
 };
 

@@ -14,12 +14,14 @@
 
 enum {
     SHORT = 1, START, TAG, LEN, VALUE, ROWS, OVERLAP, ROOM, NODE, COLUMN, UNDER, DEEP, END, SITUATION,
-    CODE = 16, CUT, NEST, TAIL, RISE, FACTS
+    CODE = 16, CUT, NEST, TAIL, RISE, FACTS, WEEK = 28
 };
 
 enum { NEGATE = 4, TURN = 5, MEET = 6, JOIN = 7, COLUMN_0 = 16, STACK = 16 };
 
 enum { MOST_ROWS = 64, MOST_FACTS = 32, FACT_FIELD = 9, MOST_LEVELS = 16, MOST_SITUATIONS = 4096 };
+
+enum { MOST_NOTICES = 1000000, LONGEST_NOTICE = 288 };
 
 static inline unsigned negated(unsigned p) { return (p >> 1) | (p & 1) << 1; }
 static inline unsigned turned(unsigned p) { return (p + 1) & 3; }
@@ -764,4 +766,35 @@ carm_answer carm_speak(const uint8_t *notice, size_t notice_len, const uint8_t *
 {
     carm_heard heard = carm_speak_set(notice, notice_len, voice, voice_len);
     return (carm_answer){ heard.number, heard.place, 0, heard.answer };
+}
+
+/* ---- weeks ---- */
+
+carm_week carm_count_week(const uint8_t *batch, size_t batch_len, const uint8_t *voice, size_t voice_len)
+{
+    carm_week week = { 0 };
+    uint64_t answers[4] = { 0 };
+    size_t read = 0, length;
+    for (size_t at = 0; at < batch_len; at += 3 + length, read++) {
+        const uint8_t *f = batch + at;
+        week.place = at;
+        week.number = batch_len - at < 3 ? SHORT : f[0] != 17 ? TAG : read == MOST_NOTICES ? WEEK : 0;
+        if (week.number) break;
+        length = two_bytes(f + 1);
+        week.number = length > LONGEST_NOTICE ? LEN : batch_len - at - 3 < length ? SHORT : 0;
+        if (week.number) break;
+        carm_heard heard = carm_speak_set(f + 3, length, voice, voice_len);
+        if (heard.number) {
+            week.by_number[heard.number]++;
+            week.refused++;
+        } else {
+            answers[heard.answer]++;
+        }
+    }
+    if (!week.number) week.place = 0;
+    week.silent = answers[0];
+    week.bury = answers[1];
+    week.keep = answers[2];
+    week.clash = answers[3];
+    return week;
 }
