@@ -1,3 +1,4 @@
 pub mod Shifts
 pub mod Spellings
 pub mod Indexes
+pub mod Listing

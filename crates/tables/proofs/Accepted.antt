@@ -1,10 +1,10 @@
 -- A table that is read: how many columns and rows it has, and that these rows are just what the part behind its first field holds.
-use Prim.Native.Nat.{ℕ, zero, suc, _+_, _-_, _≤_}
+use Prim.Native.Nat.{ℕ, zero, suc, _+_, _-_, _*_, _≤_}
 use mathlib.Core.Path.{_≡_, refl, ap, sym, _∙_}
 use mathlib.Core.Bool.{Bool, true, false}
 use mathlib.Core.List.{List}
 use lib.Dec.{eqb}
-use lib.ListN.{length, drop}
+use lib.ListN.{length, drop, length-drop}
 use borrow.Author.Tests.{eqb-true, eqb-false}
 use native.Mathlib.Omega.{arith}
 use Rattle.refusals.specs.Meaning.{after}
@@ -13,7 +13,8 @@ use Rattle.rows.specs.Meaning.{rowWidth, rowCount, firstOverlap}
 use Rattle.rows.proofs.RowBytes.{rowCount-none, rowCount-next}
 use Rattle.tables.specs.declared.TableRead.{TableRead}
 use Rattle.faults.specs.Meaning.{columnsOf, columnsFault, rowFault}
-use Rattle.tables.specs.Meaning.{rowsStart, rowsPart, refuseTable, acceptTable, rowsFrom, fieldsOf, readOf}
+use Rattle.defaults.specs.Meaning.{defaultFault}
+use Rattle.tables.specs.Meaning.{behindColumns, rowsStart, rowsPart, refuseTable, acceptTable, rowsFrom, fieldsOf, readOf}
 use Rattle.faults.specs.Inside.{SoundColumns, SoundRow}
 use Rattle.faults.proofs.FirstField.{columnsFault-sound}
 use Rattle.faults.proofs.RowFaults.{rowFault-sound}
@@ -73,12 +74,13 @@ module _
 record Counted (left n at : ℕ) (rows : List ℕ) : Type 0 where
   reply : rowsFrom left n at rows ≡ acceptTable n (64 - left + rowCount n rows)
   few : rowCount n rows ≤ left
+  short : length rows ≤ 10 * left
 
 counted-none : (left n at : ℕ) (rows : List ℕ) → length rows ≡ 0 → Counted left n at rows
 counted-none left n at rows z =
     let count : rowCount n rows ≡ 0 = rowCount-none n rows z in
     let e : 64 - left ≡ 64 - left + rowCount n rows = omega arith in
-    record { reply = rowsFrom-end left n at rows z ∙ ap (acceptTable n) e; few = omega arith }
+    record { reply = rowsFrom-end left n at rows z ∙ ap (acceptTable n) e; few = omega arith; short = omega arith }
 
 module _
     (left n at : ℕ)
@@ -97,7 +99,11 @@ module _
       let count : rowCount n rows ≡ suc (rowCount n (drop (rowWidth n) rows)) = rowCount-next n rows few long in
       let less = c .few in
       let e : 64 - (left - 1) + rowCount n (drop (rowWidth n) rows) ≡ 64 - left + rowCount n rows = omega arith in
-      record { reply = rowsFrom-pass left n at rows some h ∙ c .reply ∙ ap (acceptTable n) e; few = omega arith }
+      record {
+        reply = rowsFrom-pass left n at rows some h ∙ c .reply ∙ ap (acceptTable n) e;
+        few = omega arith;
+        short = let rest = c .short in omega (arith, rest, length-drop (rowWidth n) rows);
+      }
 
 rows-counted :
     (n : ℕ) →
@@ -124,19 +130,24 @@ after-passed check f h = go (eqb (check .number) 0) refl
 -- What is known of bytes whose fields are read, and of a table that is read.
 pub record FieldsRead (t : List ℕ) : Type 0 where
   pub reply : fieldsOf t ≡ acceptTable (columnsOf t) (rowCount (columnsOf t) (rowsPart t))
-  pub rows : rowsFrom 64 (columnsOf t) rowsStart (rowsPart t) .refusal .number ≡ 0
+  pub rows : rowsFrom 64 (columnsOf t) (rowsStart t) (rowsPart t) .refusal .number ≡ 0
   pub columns : SoundColumns t
+  pub default : defaultFault (behindColumns t) .number ≡ 0
   pub few-rows : rowCount (columnsOf t) (rowsPart t) ≤ 64
+  pub short : length (rowsPart t) ≤ 640
 
 pub fields-read : (t : List ℕ) → fieldsOf t .refusal .number ≡ 0 → FieldsRead t
 unfolding fieldsOf
 fields-read t h =
-    let w = after-passed (columnsFault t) (rowsFrom 64 (columnsOf t) rowsStart (rowsPart t)) h in
+    let rows = rowsFrom 64 (columnsOf t) (rowsStart t) (rowsPart t) in
+    let number : TableRead → ℕ = λ x. x .refusal .number in
+    let w = after-passed (columnsFault t) (after (defaultFault (behindColumns t)) refuseTable rows) h in
+    let v = after-passed (defaultFault (behindColumns t)) rows (ap number (sym (w .1)) ∙ h) in
     let s = columnsFault-sound t (w .0) in
-    let z = ap (λ (x : TableRead). x .refusal .number) (sym (w .1)) ∙ h in
-    let c = rows-counted (columnsOf t) (s .few-columns) 64 rowsStart (rowsPart t) z (omega arith) in
+    let z = ap number (sym (w .1 ∙ v .1)) ∙ h in
+    let c = rows-counted (columnsOf t) (s .few-columns) 64 (rowsStart t) (rowsPart t) z (omega arith) in
     let e : 64 - 64 + rowCount (columnsOf t) (rowsPart t) ≡ rowCount (columnsOf t) (rowsPart t) = omega arith in
-    record { reply = w .1 ∙ c .reply ∙ ap (acceptTable (columnsOf t)) e; rows = z; columns = s; few-rows = c .few }
+    record { reply = w .1 ∙ v .1 ∙ c .reply ∙ ap (acceptTable (columnsOf t)) e; rows = z; columns = s; default = v .0; few-rows = c .few; short = c .short }
 
 pub record Accepted (t : List ℕ) : Type 0 where
   pub reply : readOf t ≡ acceptTable (columnsOf t) (rowCount (columnsOf t) (rowsPart t))
@@ -144,6 +155,7 @@ pub record Accepted (t : List ℕ) : Type 0 where
   pub clear : firstOverlap (columnsOf t) (rowsPart t) .number ≡ 0
   pub few-columns : columnsOf t ≤ 6
   pub few-rows : rowCount (columnsOf t) (rowsPart t) ≤ 64
+  pub short : length (rowsPart t) ≤ 640
 
 pub read-accepted : (t : List ℕ) → readOf t .refusal .number ≡ 0 → Accepted t
 unfolding readOf
@@ -152,4 +164,4 @@ read-accepted t h =
     let w = after-passed (fieldsOf t .refusal) (after overlaps refuseTable (fieldsOf t)) h in
     let v = after-passed overlaps (fieldsOf t) (ap (λ (x : TableRead). x .refusal .number) (sym (w .1)) ∙ h) in
     let f = fields-read t (w .0) in
-    record { reply = w .1 ∙ v .1 ∙ f .reply; fields = f; clear = v .0; few-columns = f .columns .few-columns; few-rows = f .few-rows }
+    record { reply = w .1 ∙ v .1 ∙ f .reply; fields = f; clear = v .0; few-columns = f .columns .few-columns; few-rows = f .few-rows; short = f .short }

@@ -12,7 +12,7 @@ use Rattle.fields.proofs.Rests.{rest-is}
 use Rattle.rows.specs.Meaning.{rowWidth}
 use Rattle.tables.specs.declared.TableRead.{TableRead}
 use Rattle.faults.specs.Meaning.{rowFault}
-use Rattle.tables.specs.Meaning.{rowsStart, refuseTable, acceptTable, rowsFrom}
+use Rattle.tables.specs.Meaning.{refuseTable, acceptTable, rowsFrom}
 use Rattle.faults.specs.Inside.{SoundRow}
 use Rattle.tables.specs.Inside.{Reading}
 use Rattle.faults.proofs.RowFaults.{rowFault-sound}
@@ -43,62 +43,54 @@ rowsFrom-pass (suc left) n at rows h k =
     rw (e, ne-eqb (length rows) 0 h, eq-eqb (rowFault (suc left) n at rows .number) 0 k)
 
 -- the loop over the rows
-pub reading-none : (n : ℕ) (rows : List ℕ) → n ≤ 6 → Reading n rows 0 64
-reading-none n rows narrow = record { narrow = narrow; near = omega arith; few = omega arith; rest = refl }
+pub reading-none : (n start : ℕ) (t : List ℕ) → n ≤ 6 → start ≤ 8 → Reading n start t start 64
+reading-none n start t narrow front = record { narrow = narrow; near = omega arith; few = omega arith; rest = refl }
 
-module _ (n : ℕ) (rows : List ℕ) (at left : ℕ) (w : Reading n rows at left) where
+module _ (n start : ℕ) (t : List ℕ) (at left : ℕ) (w : Reading n start t at left) where
   pub reading-all :
       {r : Refusal} →
-      length rows ≤ at →
+      length t ≤ at →
       r ≡ none →
-      record { refusal = r; columns = n; rows = 64 - left } ≡ rowsFrom 64 n rowsStart rows
-  reading-all l e =
-      rw e (sym (rowsFrom-end left n (rowsStart + at) (drop at rows) (simp length-drop (omega arith))) ∙ w .rest)
+      record { refusal = r; columns = n; rows = 64 - left } ≡ rowsFrom 64 n start (drop start t)
+  reading-all l e = rw e (sym (rowsFrom-end left n at (drop at t) (simp length-drop (omega arith))) ∙ w .rest)
 
-  module _
-      (l : at < length rows)
-      {r : Refusal}
-      (e : r ≡ rowFault left (n % 8) ((rowsStart + at) % 1024) (take (length rows - at) (drop at rows))) where
-    some : length (drop at rows) ≡ 0 → ⊥
-    some z = absurd (omega (arith, z, length-drop at rows))
+  module _ (l : at < length t) {r : Refusal} (e : r ≡ rowFault left (n % 8) (at % 1024) (take (length t - at) (drop at t))) where
+    some : length (drop at t) ≡ 0 → ⊥
+    some z = absurd (omega (arith, z, length-drop at t))
 
-    fault-is : r ≡ rowFault left n (rowsStart + at) (drop at rows)
+    fault-is : r ≡ rowFault left n at (drop at t)
     fault-is =
         let narrow = w .narrow in
         let near = w .near in
         let columns : n % 8 ≡ n = omega arith in
-        let place : (rowsStart + at) % 1024 ≡ rowsStart + at = omega arith in
-        rw (columns, place, rest-is at rows) at e
+        let place : at % 1024 ≡ at = omega arith in
+        rw (columns, place, rest-is at t) at e
 
-    number-is : r .number ≡ rowFault left n (rowsStart + at) (drop at rows) .number
+    number-is : r .number ≡ rowFault left n at (drop at t) .number
     number-is = ap (λ (x : Refusal). x .number) fault-is
 
-    pub reading-stop : {q : TableRead} → (r .number ≡ 0 → ⊥) → q ≡ refuseTable r → q ≡ rowsFrom 64 n rowsStart rows
+    pub reading-stop : {q : TableRead} → (r .number ≡ 0 → ⊥) → q ≡ refuseTable r → q ≡ rowsFrom 64 n start (drop start t)
     reading-stop h k =
-        k
-        ∙ ap refuseTable fault-is
-        ∙ sym (rowsFrom-stop left n (rowsStart + at) (drop at rows) some (λ z. h (number-is ∙ z)))
-        ∙ w .rest
+        k ∙ ap refuseTable fault-is ∙ sym (rowsFrom-stop left n at (drop at t) some (λ z. h (number-is ∙ z))) ∙ w .rest
 
     module _ (h : r .number ≡ 0) where
-      sound : SoundRow left n (rowsStart + at) (drop at rows)
-      sound = rowFault-sound left n (rowsStart + at) (drop at rows) (sym number-is ∙ h)
+      sound : SoundRow left n at (drop at t)
+      sound = rowFault-sound left n at (drop at t) (sym number-is ∙ h)
 
       pub reading-left : 1 ≤ left
       reading-left = sound .more
 
-      pub reading-more : Reading n rows (at + rowWidth n) (left - 1)
+      pub reading-more : Reading n start t (at + rowWidth n) (left - 1)
       reading-more =
           let more = reading-left in
           let narrow = w .narrow in
           let near = w .near in
           let most = w .few in
-          let next : rowsStart + (at + rowWidth n) ≡ rowsStart + at + rowWidth n = omega arith in
           record {
             narrow = narrow;
             near = omega arith;
             few = omega arith;
             rest =
-                rw (next, ← drop-drop (rowWidth n) at rows)
-                (sym (rowsFrom-pass left n (rowsStart + at) (drop at rows) some (sym number-is ∙ h)) ∙ w .rest);
+                rw (← drop-drop (rowWidth n) at t)
+                (sym (rowsFrom-pass left n at (drop at t) some (sym number-is ∙ h)) ∙ w .rest);
           }

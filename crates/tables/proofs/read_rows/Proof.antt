@@ -7,27 +7,29 @@ use Rattle.tables.proofs.read_rows.Statement.{statement}
 use Rattle.tables.proofs.read_rows.Tie as tie
 
 abbrev Inv-loop : tie.InvT-loop
-Inv-loop rows n at₀ left₀ at left = Reading n rows at left
+Inv-loop table n start at₀ left₀ at left = Reading n start table at left
 
 abbrev μ-loop : tie.MeasureT-loop
-μ-loop rows n at₀ left₀ at left = length rows - at
+μ-loop table n start at₀ left₀ at left = length table - at
 
 loop-holds : tie.Need-loop-holds Inv-loop μ-loop
 loop-holds c = search (needs, reading-none)
+
+returns-2 : tie.Need-returns-2 Inv-loop μ-loop
+returns-2 c = search (needs, reading-all)
 
 returns : tie.Need-returns Inv-loop μ-loop
 returns c = search (needs, reading-stop)
 
 sub-left : tie.Need-sub-left Inv-loop μ-loop
-sub-left c = search (needs, reading-left)
+sub-left c = let read = c .before .before in
+    let test = read .before .before in
+    reading-left _ _ _ _ _ (test .before .loop .inv) (test .loop-test .taken) (read .row-fault .ensures) (c .if1 .left)
 
 loop-again : tie.Need-loop-again Inv-loop μ-loop
-loop-again c =
-    reading-more _ _ _ _ (c .before .before .before .before .before .loop .inv) (c .before .before .before .before .loop-test .taken)
-    (c .before .before .row-fault .ensures) (c .if1 .left)
-
-returns-2 : tie.Need-returns-2 Inv-loop μ-loop
-returns-2 c = search (needs, reading-all)
+loop-again c = let read = c .before .before in
+    let test = read .before .before in
+    reading-more _ _ _ _ _ (test .before .loop .inv) (test .loop-test .taken) (read .row-fault .ensures) (c .if1 .left)
 
 pub read-rows-spec : {M : Type 1} → statement M
 read-rows-spec =
@@ -36,7 +38,6 @@ read-rows-spec =
     Inv-loop
     μ-loop
     loop-holds
-    (λ c. search needs)
     (λ c. search needs)
     (λ c. search needs)
     (λ c. search needs)
