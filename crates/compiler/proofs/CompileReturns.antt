@@ -1,5 +1,5 @@
 -- Each way out of compiling: the reply and the lent bytes are those of the definitions.
-use Prim.Native.Nat.{ℕ, _+_, _%_, _≤_, _<_}
+use Prim.Native.Nat.{ℕ, _+_, _≤_, _<_}
 use mathlib.Core.Path.{_≡_, refl, ap, sym, _∙_}
 use mathlib.Core.Bool.{Bool, true, false}
 use mathlib.Core.List.{List}
@@ -14,11 +14,15 @@ use Rattle.lent.proofs.Laws.{placed-nothing, placed-all, placed-wrote}
 use Rattle.refusals.specs.Meaning.{none, refused, ROOM}
 use Rattle.refusals.specs.declared.Refusal.{Refusal}
 use Rattle.tables.specs.declared.TableRead.{TableRead}
-use Rattle.tables.specs.Meaning.{readOf, rowsPart, tableOf}
+use Rattle.answers.specs.declared.Answer.{Answer}
+use Rattle.rows.specs.Meaning.{rowCount, rowsIn}
+use Rattle.faults.specs.Meaning.{columnsOf}
+use Rattle.defaults.specs.Meaning.{defaultAnswer, defaultIn}
+use Rattle.tables.specs.Meaning.{readOf, behindColumns, rowsPart, tableOf}
 use Rattle.tables.proofs.Accepted.{read-accepted}
-use Rattle.formula.specs.Meaning.{tableNodes, tableSize}
+use Rattle.formula.specs.Meaning.{rowsNodes, allRows, tableNodes, tableSize}
 use Rattle.formula.proofs.Sizes.{table-size}
-use Rattle.writing.specs.Meaning.{tableWith}
+use Rattle.writing.specs.Meaning.{fewRows}
 use Rattle.compiler.specs.declared.Compiled.{Compiled}
 use Rattle.compiler.specs.Meaning.{refuseCompiled, replyOf, compileOf, writtenOf}
 
@@ -52,24 +56,21 @@ module _ (t : List ℕ) {f : TableRead} (e : f ≡ readOf t) where
     read-none : readOf t .refusal .number ≡ 0
     read-none = ap (λ (x : TableRead). x .refusal .number) (sym e) ∙ h
 
-    few-rows : f .rows ≤ 64
-    few-rows = rw (e, read-accepted t read-none .reply) (read-accepted t read-none .few-rows)
-
     module _
-        {rows : List ℕ} (g : rows ≡ rowsPart t) (lent : List ℕ) {new : List ℕ} {needed : ℕ}
-        (p : WroteWhole lent 0 (tableNodes (tableWith rows (f .columns) (f .rows % 128))) new needed)
+        {rows : List ℕ} (g : rows ≡ rowsPart t) {d : Answer} (k : d ≡ defaultAnswer (defaultIn (behindColumns t)))
+        (lent : List ℕ) {new : List ℕ} {needed : ℕ}
+        (p : WroteWhole lent 0 (rowsNodes (allRows d (f .columns) (rowsIn (f .columns) (fewRows rows)))) new needed)
       where
-        table-is : tableWith rows (f .columns) (f .rows % 128) ≡ tableOf t
-        table-is =
-            let few = few-rows in
-            let all : f .rows % 128 ≡ f .rows = omega arith in
-            rw (all, g, e, read-accepted t read-none .reply)
+        nodes-are : rowsNodes (allRows d (f .columns) (rowsIn (f .columns) (fewRows rows))) ≡ tableNodes (tableOf t)
+        unfolding tableNodes
+        nodes-are =
+            rw (k, g, e, read-accepted t read-none .reply, le-ltb 640 (length (rowsPart t)) (read-accepted t read-none .short))
 
         needed-is : needed ≡ tableSize (tableOf t)
         needed-is =
             p .ends
-            ∙ zero-add (length (tableNodes (tableWith rows (f .columns) (f .rows % 128))))
-            ∙ ap (λ x. length (tableNodes x)) table-is
+            ∙ zero-add (length (rowsNodes (allRows d (f .columns) (rowsIn (f .columns) (fewRows rows)))))
+            ∙ ap length nodes-are
             ∙ table-size (tableOf t)
 
         same-long : length new ≡ length lent
@@ -95,7 +96,7 @@ module _ (t : List ℕ) {f : TableRead} (e : f ≡ readOf t) where
         nodes-written l =
             let xs : List ℕ = tableNodes (tableOf t) in
             let ends : 0 + length xs ≡ needed = zero-add (length xs) ∙ table-size (tableOf t) ∙ sym needed-is in
-            let all : new ≡ sets lent 0 xs = placed-all p l ∙ ap (λ x. sets lent 0 (tableNodes x)) table-is in
+            let all : new ≡ sets lent 0 xs = placed-all p l ∙ ap (sets lent 0) nodes-are in
             rw (replied, le-ltb (length lent) needed l, ← needed-is, ← ends) (all ∙ sets-eq xs lent 0 (omega arith))
 
         pub read-written : new ≡ writtenOf t lent

@@ -11,7 +11,7 @@ use refusals::Refusal;
 use refusals::none;
 use refusals::refused;
 
-// What compiling gives: columns, rows read and nodes written, all 0 in a refusal.
+// What compiling gives: columns, rows read (not those that a default adds) and nodes written, all 0 in a refusal.
 pub struct Compiled {
     pub refusal: Refusal,
     pub columns: usize,
@@ -55,6 +55,7 @@ pub fn compile(table: &[u8], nodes: &mut [u8]) -> Compiled
         let fault = read.refusal;
         return refuse(fault);
     }
-    let needed = writing::put_table(nodes, tables::rows_of(table), read.columns, read.rows);
+    let default = tables::default_of(table);
+    let needed = writing::put_table(nodes, tables::rows_of(table), read.columns, default);
     reply(nodes.len(), needed, read.columns, read.rows)
 }

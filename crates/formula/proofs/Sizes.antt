@@ -9,8 +9,9 @@ use Rattle.answers.specs.declared.Answer.{Answer}
 use Rattle.answers.specs.declared.Answer.the-variants.{Silent, Bury, Keep, Clash}
 use Rattle.rows.specs.Meaning.{Cell, is, any, Row}
 use Rattle.tables.specs.Meaning.{Table}
-use Rattle.formula.specs.Meaning.{turned, selector, selectors, followed, together, rowNodes, rowsLeft, tableNodes}
-use Rattle.formula.specs.Meaning.{selectorSize, selectorSizes, total, sizeOf, rowSize, tableSize}
+use Rattle.formula.specs.Meaning.{turned, selector, selectors, followed, together, rowNodes, rowsLeft}
+use Rattle.formula.specs.Meaning.{rowsNodes, tableRows, tableNodes}
+use Rattle.formula.specs.Meaning.{selectorSize, selectorSizes, total, sizeOf, rowSize, rowsSize, tableSize}
 
 pub turned-size : (column turns : ℕ) → length (turned column turns) ≡ suc turns
 unfolding turned
@@ -58,10 +59,14 @@ row-size r =
     together-size 6 (number (r .outcome)) (selectors 0 (r .outcome) (r .cells))
     ∙ ap sizeOf (selectors-size 0 (r .outcome) (r .cells))
 
-rows-size : (rows : List Row) → map length (map rowNodes rows) ≡ map rowSize rows
-rows-size [] = refl
-rows-size (r ∷ rows) = ap₂ (λ x xs. x ∷ xs) (row-size r) (rows-size rows)
+row-sizes : (rows : List Row) → map length (map rowNodes rows) ≡ map rowSize rows
+row-sizes [] = refl
+row-sizes (r ∷ rows) = ap₂ (λ x xs. x ∷ xs) (row-size r) (row-sizes rows)
+
+pub rows-size : (rows : List Row) → length (rowsNodes rows) ≡ rowsSize rows
+unfolding rowsNodes rowsSize
+rows-size rows = together-size 7 0 (map rowNodes (rowsLeft rows)) ∙ ap sizeOf (row-sizes (rowsLeft rows))
 
 pub table-size : (t : Table) → length (tableNodes t) ≡ tableSize t
 unfolding tableNodes tableSize
-table-size t = together-size 7 0 (map rowNodes (rowsLeft (t .rows))) ∙ ap sizeOf (rows-size (rowsLeft (t .rows)))
+table-size t = rows-size (tableRows t)

@@ -1,4 +1,4 @@
--- The published formula: the nodes of a table, and how many they are.
+-- The published formula: the rows of a table, its nodes, and how many they are.
 use Prim.Native.Nat.{ℕ, suc, _+_, _-_, _*_, _%_}
 use mathlib.Core.Bool.{Bool, cond}
 use mathlib.Core.List.{List, [], _∷_, _++_, map}
@@ -7,7 +7,10 @@ use lib.ListN.{length, replicate}
 use Rattle.answers.specs.Meaning.{number}
 use Rattle.answers.specs.declared.Answer.{Answer}
 use Rattle.answers.specs.declared.Answer.the-variants.{Silent, Bury, Keep, Clash}
+use Rattle.base4.specs.Meaning.{situationsOf}
 use Rattle.rows.specs.Meaning.{Cell, is, any, Row}
+use Rattle.matching.specs.Meaning.{matched}
+use Rattle.defaults.specs.Meaning.{defaultAnswer}
 use Rattle.tables.specs.Meaning.{Table}
 
 -- "Nodes 0 to 3: that constant. 4 negate, 5 turn, 6 meet, 7 join. 16 to 21: column 0 to 5."
@@ -53,8 +56,30 @@ rowsLeft [] = []
 rowsLeft (r ∷ rows) = cond (isSilent (r .outcome)) (rowsLeft rows) (r ∷ rowsLeft rows)
 
 -- "The table is its first row, then each further row followed by join; with no row left it is the constant 0."
+unfoldable pub rowsNodes : List Row → List ℕ
+rowsNodes rows = together 7 0 (map rowNodes (rowsLeft rows))
+
+-- "For a default other than silent, each situation that no row matches becomes a row of its own, in base-4 order after the
+-- written rows."
+abbrev pub ownRow : Answer → List Answer → Row
+ownRow d s = record { cells = map is s; outcome = d }
+
+unfoldable pub ownRows : Answer → List Row → List (List Answer) → List Row
+ownRows d rows [] = []
+ownRows d rows (s ∷ situations) = cond (matched rows s) (ownRows d rows situations) (ownRow d s ∷ ownRows d rows situations)
+
+unfoldable pub addedRows : Answer → ℕ → List Row → List Row
+addedRows d n rows = cond (isSilent d) [] (ownRows d rows (situationsOf n))
+
+-- The written rows and those, of n columns with a default; and of a table.
+abbrev pub allRows : Answer → ℕ → List Row → List Row
+allRows d n rows = rows ++ addedRows d n rows
+
+abbrev pub tableRows : Table → List Row
+tableRows t = allRows (defaultAnswer (t .default)) (t .columns) (t .rows)
+
 unfoldable pub tableNodes : Table → List ℕ
-tableNodes t = together 7 0 (map rowNodes (rowsLeft (t .rows)))
+tableNodes t = rowsNodes (tableRows t)
 
 -- "Sizes: keep 1 + k + 1 + (k+3) mod 4 + 1; bury one more; clash 4 + 2k."
 unfoldable pub selectorSize : Answer → Answer → ℕ
@@ -81,5 +106,9 @@ sizeOf (x ∷ xs) = total (x ∷ xs) + length xs
 unfoldable pub rowSize : Row → ℕ
 rowSize r = sizeOf (selectorSizes (r .outcome) (r .cells))
 
+unfoldable pub rowsSize : List Row → ℕ
+rowsSize rows = sizeOf (map rowSize (rowsLeft rows))
+
+-- "And the node formula counts these."
 unfoldable pub tableSize : Table → ℕ
-tableSize t = sizeOf (map rowSize (rowsLeft (t .rows)))
+tableSize t = rowsSize (tableRows t)

@@ -131,5 +131,5 @@ size-few k Bury l = omega arith
 size-few k Keep l = omega arith
 size-few k Clash l = omega arith
 
-pub end-fits : (at o cell : ℕ) {k n : ℕ} → n ≡ sizeWith k (fromNumber o) → k ≡ 3 - cell → at % 65536 + n < 18446744073709551616
+pub end-fits : (at o cell : ℕ) {k n : ℕ} → n ≡ sizeWith k (fromNumber o) → k ≡ 3 - cell → at % 4294967296 + n < 18446744073709551616
 end-fits at o cell {k} f e = let few = size-few k (fromNumber o) (omega arith) in omega arith

@@ -2,7 +2,7 @@
 //
 // It promises that the nodes of the selector stand from a place on if the buffer has room for all of them, that nothing is
 // written if it has not, and that no other byte changes. The place behind the selector is returned in any case, so over an
-// empty buffer selectors are only counted. It refuses nothing: a place counts modulo 65,536 and a column modulo 8, which is
+// empty buffer selectors are only counted. It refuses nothing: a place counts modulo 4,294,967,296 and a column modulo 8, which is
 // more than any table has; a cell or an outcome above 3 counts as clash.
 ghost use mathlib.Core.Path.{_≡_};
 ghost use Prim.Native.Nat.{_+_, _-_, _%_, _≤_};
@@ -30,7 +30,7 @@ const COLUMN: u8 = 16;
 
 const COLUMNS: usize = 8;
 
-const PLACES: usize = 65536;
+const PLACES: usize = 4294967296;
 
 // A column and so many turns, three at the most: stores one by one, since a loop costs more.
 fn put_turned(nodes: &mut [u8], at: usize, column: usize, turns: usize) -> usize
@@ -121,7 +121,8 @@ fn put_whole(nodes: &mut [u8], at: usize, column: usize, k: usize, outcome: u8) 
 // The selector of a cell at a column, in a row with an outcome; a silent row has none.
 pub fn put_selector(nodes: &mut [u8], at: usize, column: usize, cell: u8, outcome: u8) -> usize
     ensures { λ r.
-        ⌜ WroteWhole (now (nodes .entry)) (at % 65536) (selector (column % 8) (fromNumber cell) (fromNumber outcome)) (now (nodes .exit)) r ⌝ }
+        ⌜ WroteWhole (now (nodes .entry)) (at % 4294967296) (selector (column % 8) (fromNumber cell) (fromNumber outcome))
+        (now (nodes .exit)) r ⌝ }
 {
     let start = at % PLACES;
     if outcome == SILENT {

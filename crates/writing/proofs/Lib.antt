@@ -1,3 +1,5 @@
 pub mod Parts
 pub mod Rows
 pub mod Tables
+pub mod WrittenRows
+pub mod OwnRows

@@ -1,7 +1,7 @@
 -- What a cell adds to a row and a row to a table, as it is written, and the loop over the cells of a row.
 use Prim.Native.Nat.{ℕ, suc, _+_, _%_, _≤_, _<_}
 use mathlib.Core.Path.{_≡_, refl, _∙_}
-use mathlib.Core.Bool.{Bool}
+use mathlib.Core.Bool.{Bool, true, false, cond}
 use mathlib.Core.List.{List, [], _∷_, _++_, map}
 use lib.Dec.{eqb}
 use lib.ListN.{length, drop, getD, drop-of-length-le, length-append}
@@ -17,11 +17,10 @@ use Rattle.answers.specs.declared.Answer.{Answer}
 use Rattle.answers.specs.declared.Answer.the-variants.{Silent, Bury, Keep, Clash}
 use Rattle.rows.specs.Meaning.{Cell, is, any, Row, cellOf}
 use Rattle.formula.specs.Meaning.{selector, selectors, together, rowNodes, selectorSize}
-use Rattle.writing.specs.Inside.{limit, beyond, Loud, rowWith, behind, cellNodes, rowStep, WritingParts, WritingCells}
+use Rattle.writing.specs.Inside.{limit, beyond, Loud, rowWith, behind, partNodes, cellNodes, rowStep, partsRest, WritingParts, WritingCells}
 use Rattle.formula.proofs.Sizes.{selector-size}
 use Rattle.formula.proofs.Largest.{selectorSize-most}
-use Rattle.writing.proofs.Parts.{parts-start, part-written, none-written}
-use Rattle.writing.proofs.Parts.{constant-written, parts-done}
+use Rattle.writing.proofs.Parts.{lined-together, parts-start, part-within, part-written, none-within, none-written, instead-written, parts-done}
 
 -- no selector is empty, and no row
 selectorSize-some : (a j : Answer) → Loud j → 1 ≤ selectorSize a j
@@ -44,10 +43,41 @@ pub row-some : (r : Row) → Loud (r .outcome) → 1 ≤ length (rowNodes r)
 unfolding rowNodes
 row-some r h = selectors-some 0 (r .outcome) (r .cells) h
 
+-- a row that comes next among the parts, or is left out
+module _
+    {whole old new : List ℕ} {at next : ℕ} (out : Bool) (r : Row) (rest : List Row)
+    (w : WritingParts 7 [] whole old 0 at new next (map rowNodes (cond out rest (r ∷ rest))))
+  where
+    pub row-fits : at + length whole ≤ limit → next + length (cond out [] (partNodes 7 (eqb next 0) (rowNodes r))) ≤ limit
+    row-fits room = go out w
+      where
+        go :
+            (s : Bool) →
+            WritingParts 7 [] whole old 0 at new next (map rowNodes (cond s rest (r ∷ rest))) →
+            next + length (cond s [] (partNodes 7 (eqb next 0) (rowNodes r))) ≤ limit
+        go true v = none-within (map rowNodes rest) v limit room
+        go false v = part-within (rowNodes r) (map rowNodes rest) v limit room
+
+    pub row-written :
+        (out ≡ false → Loud (r .outcome)) →
+        {c : List ℕ} {q : ℕ} →
+        Wrote new next (cond out [] (partNodes 7 (eqb next 0) (rowNodes r))) c q →
+        WritingParts 7 [] whole old 0 at c q (map rowNodes rest)
+    row-written h {c} {q} v = go out h w v
+      where
+        go :
+            (s : Bool) →
+            (s ≡ false → Loud (r .outcome)) →
+            WritingParts 7 [] whole old 0 at new next (map rowNodes (cond s rest (r ∷ rest))) →
+            Wrote new next (cond s [] (partNodes 7 (eqb next 0) (rowNodes r))) c q →
+            WritingParts 7 [] whole old 0 at c q (map rowNodes rest)
+        go true h u v = none-written (map rowNodes rest) u v
+        go false h u v = part-written (rowNodes r) (map rowNodes rest) u (row-some r (h refl)) v
+
 -- what a cell adds; behind its selector stands no place beyond
 pub behind-selector :
     (at column : ℕ) (a j : Answer) {b c : List ℕ} {m : ℕ} →
-    WroteWhole b (at % 65536) (selector column a j) c m →
+    WroteWhole b (at % 4294967296) (selector column a j) c m →
     m ≤ beyond
 behind-selector at column a j v =
     let ends = v .ends in
@@ -64,14 +94,14 @@ module _ (first : Bool) (column cell : ℕ) (j : Answer) where
 
   pub cell-all :
       {b c d : List ℕ} (at : ℕ) {m n : ℕ} →
-      WroteWhole b (at % 65536) (selector (column % 8) (fromNumber cell) j) c m →
+      WroteWhole b (at % 4294967296) (selector (column % 8) (fromNumber cell) j) c m →
       Wrote c m (behind 6 first) d n →
       cell < 4 →
       column < 6 →
       at ≤ limit →
       Wrote b at (cellNodes first column (cellOf cell) j) d n
   cell-all at v w h l near =
-      let place : at % 65536 ≡ at = omega arith in
+      let place : at % 4294967296 ≡ at = omega arith in
       let same : column % 8 ≡ column = omega arith in
       rw (cell-is h) (wrote-then (placed-wrote (rw (place, same) at v)) w)
 
@@ -103,13 +133,16 @@ module _ (first : Bool) (cells : List ℕ) (j : Answer) {k : ℕ} (f : k ≡ num
 
 -- the loop over the cells of a row
 pub cells-start : (j : Answer) (cells b : List ℕ) (at : ℕ) → WritingCells j cells b at b at 0
-unfolding rowNodes
-cells-start j cells b at = record { inside = omega arith; left = parts-start (selectors 0 j (map cellOf cells)) b at }
+unfolding rowNodes partsRest
+cells-start j cells b at =
+    let parts : List (List ℕ) = selectors 0 j (map cellOf cells) in
+    let start = parts-start {operator = 6} {none = number j ∷ []} parts b at at (omega arith) in
+    record { inside = omega arith; left = rw (eq-eqb at at refl, lined-together 6 (number j) parts) at start }
 
 module _ (j : Answer) (cells : List ℕ) {old new : List ℕ} {at next : ℕ} (i : ℕ) (w : WritingCells j cells old at new next i) where
   module _ (l : i < length cells) where
     abbrev Left : List ℕ → ℕ → List Cell → Type 0
-    Left b m left = WritingParts 6 (number j) (rowNodes (rowWith cells j)) old at b m (selectors i j left)
+    Left b m left = WritingParts 6 (number j ∷ []) (rowNodes (rowWith cells j)) old at at b m (selectors i j left)
 
     one-cell : Left new next (cellOf (getD cells i 0) ∷ map cellOf (drop (suc i) cells))
     one-cell = rw (drop-cons cells i 0 l) at (w .left)
@@ -132,7 +165,8 @@ module _ (j : Answer) (cells : List ℕ) {old new : List ℕ} {at next : ℕ} (i
             (x : Cell) →
             Left new next (x ∷ map cellOf (drop (suc i) cells)) →
             Wrote new next (cellNodes (eqb next at) i x j) c m →
-            WritingParts 6 (number j) (rowNodes (rowWith cells j)) old at c m (selectors (suc i) j (map cellOf (drop (suc i) cells)))
+            WritingParts 6 (number j ∷ []) (rowNodes (rowWith cells j)) old at at c m
+            (selectors (suc i) j (map cellOf (drop (suc i) cells)))
         go (is a) u v =
             part-written (selector i a j) (selectors (suc i) j (map cellOf (drop (suc i) cells))) u
             (selector-some i a j (λ z. h (f ∙ z)))
@@ -143,7 +177,7 @@ module _ (j : Answer) (cells : List ℕ) {old new : List ℕ} {at next : ℕ} (i
   cells-long = w .left .left .long
 
   module _ (l : length cells ≤ i) where
-    no-cell : WritingParts 6 (number j) (rowNodes (rowWith cells j)) old at new next []
+    no-cell : WritingParts 6 (number j ∷ []) (rowNodes (rowWith cells j)) old at at new next []
     unfolding selectors
     no-cell = rw (drop-of-length-le cells {i = i} l) at (w .left)
 
@@ -153,7 +187,7 @@ module _ (j : Answer) (cells : List ℕ) {old new : List ℕ} {at next : ℕ} (i
         x ≡ number j →
         Wrote new next (x ∷ []) c m →
         Wrote old at (rowNodes (rowWith cells j)) c m
-    outcome-written z e v = constant-written no-cell z (rw e at v)
+    outcome-written z e v = instead-written no-cell z (rw e at v)
 
     pub cells-done : (next ≡ at → ⊥) → Wrote old at (rowNodes (rowWith cells j)) new next
     cells-done z = parts-done no-cell z

@@ -1,9 +1,10 @@
--- Writing the nodes of a table: which table.
+-- Writing the nodes of a table: of which rows.
 use Prim.Native.Nat.{ℕ}
-use mathlib.Core.List.{List}
-use Rattle.rows.specs.Meaning.{rowsOf}
-use Rattle.tables.specs.Meaning.{Table}
+use mathlib.Core.Bool.{cond}
+use mathlib.Core.List.{List, []}
+use lib.Dec.{ltb}
+use lib.ListN.{length}
 
--- The table of the first m rows of a part, with n columns.
-abbrev pub tableWith : List ℕ → ℕ → ℕ → Table
-tableWith rows n m = record { columns = n; rows = rowsOf n rows 0 m }
+-- The part that holds the rows; one that is longer than 64 rows of six columns counts as empty.
+abbrev pub fewRows : List ℕ → List ℕ
+fewRows rows = cond (ltb 640 (length rows)) [] rows

@@ -7,13 +7,13 @@ returns : tie.Need-returns
 returns c = search (needs, compile-unread, unread-writes-nothing)
 
 returns-2 : tie.Need-returns-2
-returns-2 c =
-    let put = c .before .before .before in
-    let read = put .before .before .before .before .before .read-table .ensures in
-    let accepted = put .before .before .before .if1 .left in
+returns-2 c = let put = c .before .before .before in
+    let default = put .before .before .before in
+    let read = default .before .before .before .read-table .ensures in
+    let accepted = default .before .if1 .left in
     let rows = put .before .rows-of .ensures in (
-      compile-replies _ read accepted rows _ (put .put-table .ensures) (c .reply .ensures),
-      read-written _ read accepted rows _ (put .put-table .ensures),
+      compile-replies _ read accepted rows (default .default-of .ensures) _ (put .put-table .ensures) (c .reply .ensures),
+      read-written _ read accepted rows (default .default-of .ensures) _ (put .put-table .ensures),
     )
 
 pub compile-spec : {M : Type 1} → statement M
@@ -23,6 +23,7 @@ compile-spec =
     (λ c κs. search needs)
     (λ c κs. search needs)
     returns
+    (λ c κs. search needs)
     (λ c κs. search needs)
     (λ c κs. search needs)
     (λ c κs. search needs)
