@@ -11,15 +11,19 @@ use Rattle.fields.specs.Meaning.{shortHeader, shortValue, firstAbove}
 use Rattle.situations.specs.Meaning.{outside}
 use Rattle.rows.specs.Meaning.{rowWidth}
 use Rattle.tables.specs.declared.TableRead.{TableRead}
+use Rattle.defaults.specs.Meaning.{hasDefault, defaultFault}
 use Rattle.faults.specs.Meaning.{columnsOf, otherTag, rowTooMany, otherLength, cellsAt, valueFault, columnsFault, rowFault}
-use Rattle.tables.specs.Meaning.{rowsStart, rowsPart, refuseTable, acceptTable, rowsFrom, fieldsOf}
+use Rattle.tables.specs.Meaning.{behindColumns, rowsStart, rowsPart, refuseTable, acceptTable, rowsFrom, fieldsOf}
 
 record Small (r : Refusal) : Type 0 where
   below : r .number ≤ 6
 
+small-either : (b : Bool) {p q : Refusal} → Small p → Small q → Small (cond b p q)
+small-either true h k = h
+small-either false h k = k
+
 small : (b : Bool) (k p : ℕ) {r : Refusal} → k ≤ 6 → Small r → Small (cond b (refused k p) r)
-small true k p l h = record { below = l }
-small false k p l h = h
+small b k p l h = small-either b (record { below = l }) h
 
 small-none : Small none
 small-none = record { below = omega arith }
@@ -33,6 +37,16 @@ columnsFault-small t =
     (small (otherLength 1 t) LEN 0 (omega arith)
     (small (shortValue 1 t) SHORT 0 (omega arith)
     (small (outside (columnsOf t)) VALUE 3 (omega arith) small-none)))))
+
+defaultFault-small : (part : List ℕ) → Small (defaultFault part)
+unfolding defaultFault
+defaultFault-small part =
+    small-either (hasDefault part)
+    (small (shortHeader part) SHORT 4 (omega arith)
+    (small (otherLength 1 part) LEN 4 (omega arith)
+    (small (shortValue 1 part) SHORT 4 (omega arith)
+    (small (ltb 3 (getD part 3 0)) VALUE 7 (omega arith) small-none))))
+    small-none
 
 rowFault-small : (left n at : ℕ) (rows : List ℕ) → Small (rowFault left n at rows)
 unfolding rowFault valueFault
@@ -50,6 +64,9 @@ small-read : (b : Bool) (x y : TableRead) → Small (x .refusal) → Small (y .r
 small-read true x y h k = h
 small-read false x y h k = k
 
+after-small : (r : Refusal) (x : TableRead) → Small r → Small (x .refusal) → Small (after r refuseTable x .refusal)
+after-small r x h k = small-read (eqb (r .number) 0) x (refuseTable r) k h
+
 rowsFrom-small : (left n at : ℕ) (rows : List ℕ) → Small (rowsFrom left n at rows .refusal)
 unfolding rowsFrom
 rowsFrom-small zero n at rows =
@@ -58,12 +75,13 @@ rowsFrom-small (suc left) n at rows =
     let next = rowsFrom left n (at + rowWidth n) (drop (rowWidth n) rows) in
     let fault = rowFault (suc left) n at rows in
     small-read (eqb (length rows) 0) (acceptTable n (64 - suc left)) (after fault refuseTable next) small-none
-    (small-read (eqb (fault .number) 0) next (refuseTable fault) (rowsFrom-small left n (at + rowWidth n) (drop (rowWidth n) rows))
-    (rowFault-small (suc left) n at rows))
+    (after-small fault next (rowFault-small (suc left) n at rows) (rowsFrom-small left n (at + rowWidth n) (drop (rowWidth n) rows)))
 
 pub fieldsOf-small : (t : List ℕ) → fieldsOf t .refusal .number ≤ 6
 unfolding fieldsOf
 fieldsOf-small t =
-    small-read (eqb (columnsFault t .number) 0) (rowsFrom 64 (columnsOf t) rowsStart (rowsPart t)) (refuseTable (columnsFault t))
-    (rowsFrom-small 64 (columnsOf t) rowsStart (rowsPart t)) (columnsFault-small t)
+    let rows = rowsFrom 64 (columnsOf t) (rowsStart t) (rowsPart t) in
+    let default = defaultFault (behindColumns t) in
+    after-small (columnsFault t) (after default refuseTable rows) (columnsFault-small t)
+    (after-small default rows (defaultFault-small (behindColumns t)) (rowsFrom-small 64 (columnsOf t) (rowsStart t) (rowsPart t)))
     .below

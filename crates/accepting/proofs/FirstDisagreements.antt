@@ -13,7 +13,8 @@ use Rattle.refusals.proofs.First.{first-none, first-all, first-found}
 use Rattle.answers.specs.Meaning.{number}
 use Rattle.answers.specs.declared.Answer.{Answer}
 use Rattle.rows.specs.Meaning.{row, matches, Disagree, rowCount, rowsIn, pairFault, overlapOf, overlapIn, disagreeAt, firstOverlap}
-use Rattle.tables.specs.Meaning.{Table, Consistent, FirstDisagreement}
+use Rattle.faults.specs.Meaning.{columnsOf}
+use Rattle.tables.specs.Meaning.{Table, Consistent, FirstDisagreement, rowsPart, tableOf}
 use Rattle.accepting.proofs.SharedSituations.{number-same, disagree-shared, shared-disagree}
 use Rattle.accepting.proofs.RowsIn.{rowsIn-length, rowsIn-row}
 
@@ -106,11 +107,14 @@ same-outcome p q h = go (eqb (number p) (number q)) refl
     go true e = number-same p q (eqb-true (number p) (number q) e)
     go false e = absurd (h (λ o. eqb-false (number p) (number q) e (ap number o)))
 
--- the rows of n cells that a part holds, as a table
-abbrev pub tableIn : ℕ → List ℕ → Table
-tableIn n part = record { columns = n; rows = rowsIn n part }
+-- the rows of bytes that are a table, each as wide as it is
+module _ (t : List ℕ) (wide : (i : ℕ) → i < length (tableOf t .rows) → length (row (tableOf t .rows) i .cells) ≡ columnsOf t) where
+  abbrev n : ℕ
+  n = columnsOf t
 
-module _ (n : ℕ) (part : List ℕ) (wide : (i : ℕ) → i < length (rowsIn n part) → length (row (rowsIn n part) i .cells) ≡ n) where
+  abbrev part : List ℕ
+  part = rowsPart t
+
   row-wide : (i : ℕ) → i < rowCount n part → length (row (rowsIn n part) i .cells) ≡ n
   row-wide i l = wide i (rw (rowsIn-length n part) l)
 
@@ -136,7 +140,7 @@ module _ (n : ℕ) (part : List ℕ) (wide : (i : ℕ) → i < length (rowsIn n 
       rw (rowsIn-row n part i l, rowsIn-row n part j k) at (shared-disagree n (row (rowsIn n part) i) (row (rowsIn n part) j) w)
 
   -- no pair is found exactly if the table is consistent
-  pub consistent-clear : Consistent (tableIn n part) → firstOverlap n part .number ≡ 0
+  pub consistent-clear : Consistent (tableOf t) → firstOverlap n part .number ≡ 0
   consistent-clear c =
       none-overlapIn (disagreeAt n part) (rowCount n part)
       (λ later earlier l k h.
@@ -146,7 +150,7 @@ module _ (n : ℕ) (part : List ℕ) (wide : (i : ℕ) → i < length (rowsIn n 
       (c .agree later earlier (rw (rowsIn-length n part) l) (rw (rowsIn-length n part) (omega (arith, l, k))) (s .situation) (s .wide)
       (s .one) (s .other)))
 
-  pub clear-consistent : firstOverlap n part .number ≡ 0 → Consistent (tableIn n part)
+  pub clear-consistent : firstOverlap n part .number ≡ 0 → Consistent (tableOf t)
   clear-consistent h = record { agree = agree }
     where
       later :
@@ -184,7 +188,7 @@ module _ (n : ℕ) (part : List ℕ) (wide : (i : ℕ) → i < length (rowsIn n 
   first-pair :
       (later earlier : ℕ) →
       FirstPair (disagreeAt n part) (rowCount n part) later earlier →
-      FirstDisagreement (tableIn n part) later earlier
+      FirstDisagreement (tableOf t) later earlier
   first-pair later earlier w =
       let inside : later < rowCount n part = w .inside in
       let order : earlier < later = w .order in
@@ -192,8 +196,8 @@ module _ (n : ℕ) (part : List ℕ) (wide : (i : ℕ) → i < length (rowsIn n 
         inside = rw (rowsIn-length n part) inside;
         order = order;
         here = bad-disagree later earlier inside (omega arith) (w .here);
-        later-smallest = λ l e k j d. w .later-smallest l e k j (disagree-bad l e (omega (arith, k)) (omega (arith, k, j)) d);
-        earlier-smallest = λ e k d. w .earlier-smallest e k (disagree-bad later e inside (omega (arith, k)) d);
+        later-smallest = λ l e k j b. w .later-smallest l e k j (disagree-bad l e (omega (arith, k)) (omega (arith, k, j)) b);
+        earlier-smallest = λ e k b. w .earlier-smallest e k (disagree-bad later e inside (omega (arith, k)) b);
       }
 
   pub overlap-first :
@@ -201,7 +205,7 @@ module _ (n : ℕ) (part : List ℕ) (wide : (i : ℕ) → i < length (rowsIn n 
       (later : ℕ)
       × (earlier : ℕ)
       × (firstOverlap n part ≡ record { number = OVERLAP; place = later; second = earlier })
-      × FirstDisagreement (tableIn n part) later earlier
+      × FirstDisagreement (tableOf t) later earlier
   overlap-first h =
       let v = overlapIn-first (disagreeAt n part) (rowCount n part) h in
       (v .0, v .1, v .2 .same, first-pair (v .0) (v .1) (v .2))

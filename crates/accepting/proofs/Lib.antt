@@ -1,8 +1,11 @@
 pub mod SharedSituations
 pub mod Saying
 pub mod FirstDisagreements
+pub mod DefaultEncoding
+pub mod FieldsEncoding
 pub mod RowsIn
 pub mod RowEncoding
 pub mod RowsEncoding
 pub mod BelowOverlap
 pub mod TableEncoding
+pub mod DefaultRefusals

@@ -83,6 +83,16 @@ matched-overlap (c ∷ cells) (d ∷ others) (a ∷ s) h k =
     (matched-share c d a (left (cellMatches c a) (matches cells s) h) (left (cellMatches d a) (matches others s) k))
     (matched-overlap cells others s (right (cellMatches c a) (matches cells s) h) (right (cellMatches d a) (matches others s) k))
 
+-- every row of cells matches some situation
+overlap-itself : (cells : List Cell) → T (overlap cells cells)
+unfolding overlap
+overlap-itself [] = tt
+overlap-itself (is a ∷ cells) = both (eqb (number a) (number a)) (overlap cells cells) (eqb-refl (number a)) (overlap-itself cells)
+overlap-itself (any ∷ cells) = overlap-itself cells
+
+pub some-situation : (cells : List Cell) → Shared (length cells) cells cells
+some-situation cells = overlap-matched cells cells refl (overlap-itself cells)
+
 -- the test of two rows and the property
 pub number-same : (a b : Answer) → number a ≡ number b → a ≡ b
 number-same a b e = sym (number-from a) ∙ ap fromNumber e ∙ number-from b

@@ -1,48 +1,44 @@
 -- Tables and their bytes: a well-formed, consistent table is read back from its bytes, what is accepted is the bytes of the table that
 -- is read, and OVERLAP names the first rows of such bytes that disagree.
 use Prim.Native.Nat.{ℕ, _+_, _*_, _≤_, _<_}
-use mathlib.Core.Path.{_≡_, refl, ap, sym, _∙_}
+use mathlib.Core.Path.{_≡_, refl, ap, ap₂, sym, _∙_}
 use mathlib.Core.Logic.{_⊎_, inl, inr, ⊎-elim}
 use mathlib.Core.Bool.{Bool, true, false}
-use mathlib.Core.List.{List, [], _∷_}
+use mathlib.Core.List.{List, [], _∷_, _++_}
 use lib.Dec.{eqb}
-use lib.ListN.{length, drop, getD}
-use borrow.Author.Tests.{le-ltb, eq-eqb, ne-eqb, eqb-true, eqb-false}
+use lib.ListN.{length, length-append}
+use borrow.Author.Tests.{eqb-true, eqb-false}
 use native.Mathlib.Nat.{zero-add, mul-le-mul}
 use native.Mathlib.Omega.{arith}
 use Rattle.refusals.specs.Meaning.{after, OVERLAP}
 use Rattle.refusals.specs.declared.Refusal.{Refusal}
-use Rattle.rows.specs.Meaning.{row, rowWidth, rowBytes, rowOf, rowsIn, firstOverlap}
+use Rattle.fields.specs.Meaning.{field}
+use Rattle.rows.specs.Meaning.{row, rowFields, rowWidth, rowBytes, rowOf, rowsIn, firstOverlap}
 use Rattle.tables.specs.declared.TableRead.{TableRead}
-use Rattle.faults.specs.Meaning.{columnsOf, columnsFault}
-use Rattle.tables.specs.Meaning.{Table, WellFormed, Consistent, FirstDisagreement, tableBytes, rowsStart, rowsPart, tableOf, refuseTable, acceptTable, fieldsOf, readOf}
+use Rattle.faults.specs.Meaning.{columnsOf}
+use Rattle.defaults.specs.Meaning.{defaultField, defaultIn}
+use Rattle.tables.specs.Meaning.{Table, WellFormed, Consistent, FirstDisagreement, tableBytes, behindColumns, rowsStart, rowsPart, tableOf, refuseTable, acceptTable, fieldsOf, readOf}
 use Rattle.tables.proofs.ReadReturns.{readOf-overlap, readOf-accepts}
 use Rattle.tables.proofs.Accepted.{FieldsRead, fields-read, read-accepted}
 use Rattle.accepting.proofs.RowsIn.{rowsIn-length, rowsIn-row}
-use Rattle.accepting.proofs.RowsEncoding.{Wide, rowFields-length, write-rows, Encoded}
+use Rattle.accepting.proofs.RowsEncoding.{Wide, rowFields-length, rowFields-apart, write-rows, Encoded}
 use Rattle.accepting.proofs.RowsEncoding as rows
+use Rattle.accepting.proofs.DefaultEncoding.{one-byte, Apart, read-default, defaultField-short}
+use Rattle.accepting.proofs.FieldsEncoding.{rowsPart-behind, default-written, rows-written, fields-written}
 use Rattle.accepting.proofs.FirstDisagreements.{consistent-clear, clear-consistent, overlap-first}
 use Rattle.accepting.proofs.BelowOverlap.{fieldsOf-small}
 
 -- the bytes of a well-formed table
 module _ (t : Table) (w : WellFormed t) where
-  columns-pass : columnsFault (tableBytes t) .number ≡ 0
-  unfolding columnsFault
-  columns-pass =
-      rw (
-        ne-eqb (length (tableBytes t)) 0 (λ e. omega (arith, e)),
-        le-ltb (length (tableBytes t)) 3 (omega arith),
-        le-ltb (length (tableBytes t)) 4 (omega arith),
-        le-ltb (t .columns) 1 (w .some-column),
-        le-ltb 6 (t .columns) (w .few-columns),
-      )
+  rows-apart : Apart (t .default) (rowFields (t .rows))
+  rows-apart = rowFields-apart (t .default) (t .rows)
 
   write-fields : fieldsOf (tableBytes t) ≡ acceptTable (t .columns) (length (t .rows))
-  unfolding fieldsOf Wide
+  unfolding Wide
   write-fields =
-      rw (eq-eqb (columnsFault (tableBytes t) .number) 0 columns-pass)
-      (rows.write-read (t .rows) 64 (t .columns) rowsStart (omega arith) (w .few-rows) (w .wide)
-      ∙ ap (acceptTable (t .columns)) (zero-add (length (t .rows))))
+      fields-written (t .columns) (w .some-column) (w .few-columns) (t .default) (rowFields (t .rows)) rows-apart
+      ∙ rows.write-read (t .rows) 64 (t .columns) (4 + length (defaultField (t .default))) (omega arith) (w .few-rows) (w .wide)
+      ∙ ap (acceptTable (t .columns)) (zero-add (length (t .rows)))
 
   fields-sound : fieldsOf (tableBytes t) .refusal .number ≡ 0
   fields-sound = ap (λ (x : TableRead). x .refusal .number) write-fields
@@ -50,7 +46,11 @@ module _ (t : Table) (w : WellFormed t) where
   pub write-table : tableOf (tableBytes t) ≡ t
   unfolding Wide
   write-table =
-      ap (λ rows. record { columns = t .columns; rows = rows }) (write-rows (t .columns) (t .rows) (w .few-columns) (w .wide))
+      let rows = rowFields (t .rows) in
+      ap₂ (λ d rows. record { columns = t .columns; default = d; rows = rows })
+      (default-written (t .columns) (w .some-column) (w .few-columns) (t .default) rows rows-apart .read)
+      (ap (rowsIn (t .columns)) (rows-written (t .columns) (w .some-column) (w .few-columns) (t .default) rows rows-apart)
+      ∙ write-rows (t .columns) (t .rows) (w .few-columns) (w .wide))
 
   pub write-row : (i : ℕ) → i < length (t .rows) → rowOf (rowBytes (t .columns) (rowsPart (tableBytes t)) i) ≡ row (t .rows) i
   write-row i l =
@@ -58,36 +58,30 @@ module _ (t : Table) (w : WellFormed t) where
       let count = rowsIn-length (t .columns) (rowsPart (tableBytes t)) in
       sym (rowsIn-row (t .columns) (rowsPart (tableBytes t)) i (rw (← count, same) l)) ∙ ap (λ rs. row rs i) same
 
-  pub tableBytes-length : length (tableBytes t) ≡ 4 + length (t .rows) * rowWidth (t .columns)
+  pub tableBytes-length : length (tableBytes t) ≡ 4 + length (defaultField (t .default)) + length (t .rows) * rowWidth (t .columns)
   unfolding Wide
-  tableBytes-length = let rest = rowFields-length (t .columns) (t .rows) (w .wide) in omega (arith, rest)
+  tableBytes-length =
+      let rest = rowFields-length (t .columns) (t .rows) (w .wide) in
+      omega (arith, rest, length-append (defaultField (t .default)) (rowFields (t .rows)))
 
-  pub tableBytes-most : length (tableBytes t) ≤ 644
+  pub tableBytes-most : length (tableBytes t) ≤ 648
   tableBytes-most =
       let width : rowWidth (t .columns) ≤ 10 = let few = w .few-columns in omega arith in
       let most : length (t .rows) * rowWidth (t .columns) ≤ 64 * 10 = mul-le-mul (w .few-rows) width in
-      rw tableBytes-length (omega (arith, most))
+      rw tableBytes-length (omega (arith, most, defaultField-short (t .default)))
 
 -- bytes whose fields are read
-four : (t : List ℕ) → 4 ≤ length t → getD t 0 0 ∷ getD t 1 0 ∷ getD t 2 0 ∷ getD t 3 0 ∷ drop 4 t ≡ t
-four [] l = absurd (omega arith)
-four (x ∷ []) l = absurd (omega arith)
-four (x ∷ y ∷ []) l = absurd (omega arith)
-four (x ∷ y ∷ z ∷ []) l = absurd (omega arith)
-four (x ∷ y ∷ z ∷ u ∷ t) l = refl
-
 module _ (t : List ℕ) (f : FieldsRead t) where
   encoded : Encoded (columnsOf t) (rowsPart t)
-  encoded = rows.read-write (columnsOf t) (f .columns .few-columns) 64 rowsStart (rowsPart t) (f .rows)
+  encoded = rows.read-write (columnsOf t) (f .columns .few-columns) 64 (rowsStart t) (rowsPart t) (f .rows)
 
   fields-write : tableBytes (tableOf t) ≡ t
   fields-write =
-      let one = f .columns .one-byte in
-      let high : getD t 1 0 ≡ 0 = omega arith in
-      let low : getD t 2 0 ≡ 1 = omega arith in
-      let first : List ℕ → List ℕ = λ rs. 1 ∷ 0 ∷ 1 ∷ columnsOf t ∷ rs in
-      let whole : first (rowsPart t) ≡ t = rw (f .columns .first-tag, high, low) at (four t (f .columns .long)) in
-      ap first (encoded .same) ∙ whole
+      let behind = behindColumns t in
+      let first : List ℕ → List ℕ = λ rest. field 1 (columnsOf t ∷ []) ++ rest in
+      ap first
+      (ap (λ rows. defaultField (defaultIn behind) ++ rows) (encoded .same ∙ rowsPart-behind t) ∙ read-default behind (f .default))
+      ∙ one-byte 1 t (f .columns .first-tag) (f .columns .one-byte) (f .columns .long)
 
   rows-wide : (i : ℕ) → i < length (tableOf t .rows) → length (row (tableOf t .rows) i .cells) ≡ columnsOf t
   unfolding Wide
@@ -107,7 +101,7 @@ pub write-read : (t : Table) → WellFormed t → Consistent t → readOf (table
 write-read t w c =
     let b = tableBytes t in
     let sound = fields-sound t w in
-    let clear = consistent-clear (columnsOf b) (rowsPart b) (rows-wide b (fields-read b sound)) (rw (write-table t w) c) in
+    let clear = consistent-clear b (rows-wide b (fields-read b sound)) (rw (write-table t w) c) in
     sym (readOf-accepts b refl sound (columnsOf b) (rowsPart b) refl refl refl clear) ∙ write-fields t w
 
 -- and what is accepted is the bytes of the well-formed, consistent table that is read
@@ -120,7 +114,7 @@ module _ (t : List ℕ) (h : readOf t .refusal .number ≡ 0) where
 
   pub read-consistent : Consistent (tableOf t)
   read-consistent =
-      clear-consistent (columnsOf t) (rowsPart t) (rows-wide t (read-accepted t h .fields)) (read-accepted t h .clear)
+      clear-consistent t (rows-wide t (read-accepted t h .fields)) (read-accepted t h .clear)
 
 -- what is refused is refused by the fields, or it is the first pair
 read-split :
@@ -166,7 +160,7 @@ module _ (t : List ℕ) (h : readOf t .refusal .number ≡ OVERLAP) where
   pub overlap-named : FirstDisagreement (tableOf t) (readOf t .refusal .place) (readOf t .refusal .second)
   overlap-named =
       let w = read-overlap t h in
-      let v = overlap-first (columnsOf t) (rowsPart t) (rows-wide t (w .0)) (w .1) in
+      let v = overlap-first t (rows-wide t (w .0)) (w .1) in
       rw (w .2, v .2) (v .3)
 
 -- a well-formed table that is not consistent is refused by OVERLAP
@@ -176,8 +170,8 @@ write-overlap t w h =
     let sound = fields-sound t w in
     let wide = rows-wide b (fields-read b sound) in
     let bad : firstOverlap (columnsOf b) (rowsPart b) .number ≡ 0 → ⊥ =
-    λ e. h (rw (write-table t w) at (clear-consistent (columnsOf b) (rowsPart b) wide e)) in
-    let v = overlap-first (columnsOf b) (rowsPart b) wide bad in
+    λ e. h (rw (write-table t w) at (clear-consistent b wide e)) in
+    let v = overlap-first b wide bad in
     let reply : refuseTable (firstOverlap (columnsOf b) (rowsPart b)) ≡ readOf b =
     readOf-overlap b refl sound (columnsOf b) (rowsPart b) refl refl refl bad refl in
     ap (λ (x : TableRead). x .refusal .number) (sym reply) ∙ ap (λ (x : Refusal). x .number) (v .2)

@@ -1,9 +1,9 @@
 -- No failing step is the law over all mergers: one situation grows into another by steps, one column at a time.
 use Prim.Native.Nat.{ℕ, zero, suc}
-use mathlib.Core.Path.{_≡_, refl, ap₂, sym, _∙_}
+use mathlib.Core.Path.{_≡_, refl, ap₂, subst, sym, _∙_}
 use mathlib.Core.List.{List, [], _∷_}
 use lib.Dec.{T}
-use lib.ListN.{length, set, replicate, length-set}
+use lib.ListN.{length, set, replicate, length-set, length-replicate}
 use native.Mathlib.Omega.{arith}
 use mathlib.Core.Logic.{_↔_}
 use Rattle.answers.specs.Meaning.{join, contained}
@@ -54,6 +54,17 @@ grow-within f n g s t a b w = rw (merge-within s t w) at (g .first s t a b)
 pub grow-steps : (f : List Answer → Answer) (n : ℕ) → Grows f n → StepsGrow f n
 grow-steps f n g s column a e k =
     grow-within f n g s (set s column a) e (length-set s column a ∙ e) (step-within s column a k)
+
+-- and from silent everywhere, which every situation contains
+silent-within : (s : List Answer) → Within (replicate (length s) Silent) s
+silent-within [] = tt
+silent-within (x ∷ s) = (tt, silent-within s)
+
+pub grow-silent :
+    (f : List Answer → Answer) (n : ℕ) → Grows f n → (s : List Answer) → length s ≡ n → T (contained (f (replicate n Silent)) (f s))
+grow-silent f n g s e =
+    grow-within f n g (replicate n Silent) s (length-replicate {A = Answer} n Silent) e
+    (subst (λ k. Within (replicate k Silent) s) e (silent-within s))
 
 -- the claim that a step adds
 join-added : (x a : Answer) → T (raises x a) → join x (added x a) ≡ a

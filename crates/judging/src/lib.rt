@@ -17,7 +17,7 @@ pub const TEXT_ROOM: usize = 256;
 // How many bytes of the input are judged.
 pub const JUDGED: usize = 1024;
 
-// The text of a table. The largest table needs 4,223 nodes.
+// The text of a table. Without a default other than silent no table needs more than 4,223 nodes; one that does is refused by ROOM.
 fn judge_table(table: &[u8], text: &mut [u8]) -> usize
     ensures { λ r. ⌜ Printed (now (text .entry)) 0 (textOf (now (table .entry))) (now (text .exit)) r ⌝ }
 {

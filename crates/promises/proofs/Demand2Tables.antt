@@ -13,7 +13,7 @@ use Rattle.rows.specs.Meaning.{Cell, row, matches, rowBytes, rowOf, Shared, ove
 use Rattle.tables.specs.declared.TableRead.{TableRead}
 use Rattle.tables.specs.Meaning.{Table, WellFormed, Consistent, says, tableBytes, acceptTable, rowsPart, tableOf, readOf}
 use Rattle.accepting.proofs.SharedSituations.{overlap-matched, matched-overlap}
-use Rattle.accepting.proofs.Saying.{says-matching, says-silent}
+use Rattle.accepting.proofs.Saying.{says-matching, says-default}
 use Rattle.accepting.proofs.TableEncoding.{write-read, write-table, write-row, tableBytes-most, read-write, read-formed, read-consistent}
 use Rattle.answers.specs.Meaning.{number, succeed}
 use Rattle.situations.specs.Meaning.{fault, answersOf}
@@ -22,11 +22,11 @@ use Rattle.running.proofs.Leads.{leads-answer}
 use Rattle.formula.specs.Meaning.{selector, tableNodes, tableSize}
 use Rattle.compiler.specs.Meaning.{compileOf, writtenOf}
 use Rattle.formula.proofs.Sizes.{table-size}
-use Rattle.formula.proofs.Largest.{table-most}
+use Rattle.formula.proofs.MostNodes.{nodes-most}
 use Rattle.selection.proofs.Picking.{selector-picks, leads-selector}
 use Rattle.selection.proofs.Replies.{accepted-read, accepted-room, accepted-count, accepted-nodes, accepted-rest, fits-accepted}
 use Rattle.selection.proofs.Trees.{tree-answers}
-use Rattle.promises.specs.Meaning.{Accepts, Compiles, nodesWritten}
+use Rattle.promises.specs.Meaning.{Accepts, Unmatched, defaultOf, Compiles, nodesWritten}
 
 -- Bytes are accepted exactly when they are the encoding of some table of 1 to 6 columns and at most 64 rows in which no
 -- situation is matched by two rows with different outcomes.
@@ -57,15 +57,15 @@ pub accepted-rows :
     rowOf (rowBytes (t .columns) (rowsPart (tableBytes t)) i) ≡ row (t .rows) i
 accepted-rows = write-row
 
--- No accepted table has more than 6 columns, and none is longer than 644 bytes.
+-- No accepted table has more than 6 columns, and none is longer than 648 bytes.
 pub accepted-columns : (bytes : List ℕ) → Accepts bytes → tableOf bytes .columns ≤ 6
 unfolding Accepts
 accepted-columns bytes h = read-formed bytes h .few-columns
 
-pub accepted-short : (bytes : List ℕ) → Accepts bytes → length bytes ≤ 644
+pub accepted-short : (bytes : List ℕ) → Accepts bytes → length bytes ≤ 648
 unfolding Accepts
 accepted-short bytes h =
-    subst (λ (l : List ℕ). length l ≤ 644) (read-write bytes h) (tableBytes-most (tableOf bytes) (read-formed bytes h))
+    subst (λ (l : List ℕ). length l ≤ 648) (read-write bytes h) (tableBytes-most (tableOf bytes) (read-formed bytes h))
 
 -- The test of two rows of cells, cell by cell, finds an overlap exactly if some situation is matched by both.
 pub overlap-is-shared : (c d : List Cell) → length c ≡ length d → T (overlap c d) ↔ Shared (length c) c d
@@ -84,20 +84,20 @@ pub matching-rows-agree :
 unfolding Accepts
 matching-rows-agree bytes h = says-matching (tableOf bytes) (read-consistent bytes h)
 
--- .. and it says silent exactly if no row matches or a matching one says so.
-pub silent-exactly :
+-- .. and it says its default exactly if no row matches or a matching one says so.
+pub default-exactly :
     (bytes : List ℕ) →
     Accepts bytes →
     (s : List Answer) →
     length s ≡ tableOf bytes .columns →
-    (says (tableOf bytes) s ≡ Silent)
-    ↔ (((i : ℕ) → i < length (tableOf bytes .rows) → T (matches (row (tableOf bytes .rows) i .cells) s) → ⊥)
+    (says (tableOf bytes) s ≡ defaultOf (tableOf bytes))
+    ↔ (Unmatched (tableOf bytes) s
     ⊎ ((i : ℕ)
     × (i < length (tableOf bytes .rows))
     × T (matches (row (tableOf bytes .rows) i .cells) s)
-    × (row (tableOf bytes .rows) i .outcome ≡ Silent)))
+    × (row (tableOf bytes .rows) i .outcome ≡ defaultOf (tableOf bytes))))
 unfolding Accepts
-silent-exactly bytes h = says-silent (tableOf bytes) (read-consistent bytes h)
+default-exactly bytes h = says-default (tableOf bytes) (read-consistent bytes h)
 
 -- A table is accepted exactly when its bytes are the encoding of a well formed, consistent table, and the published formula
 -- is at most the room.
@@ -122,12 +122,10 @@ pub count-is-formula :
 unfolding Compiles
 count-is-formula bytes lent h = (accepted-count bytes lent h, table-size (tableOf bytes))
 
--- .. and no accepted table needs more than 4,223.
-pub count-at-most : (bytes : List ℕ) → Accepts bytes → tableSize (tableOf bytes) ≤ 4223
+-- .. and no accepted table needs more than 200,771.
+pub count-at-most : (bytes : List ℕ) → Accepts bytes → tableSize (tableOf bytes) ≤ 200771
 unfolding Accepts
-count-at-most bytes h =
-    let w = read-formed bytes h in
-    table-most (tableOf bytes) (w .few-rows) (λ i l. rw (w .wide i l) (w .few-columns))
+count-at-most bytes h = nodes-most (tableOf bytes) (read-formed bytes h)
 
 -- An accepted call writes the nodes and nothing else.
 pub accepted-writes-nodes :

@@ -125,15 +125,20 @@ module _ (bytes lent : List ℕ) (accepted : Compiles bytes lent) where
             (grows-same (says (tableOf bytes)) (answerAt (nodesWritten bytes lent)) (tableOf bytes .columns) (λ s l. sym (nodes-say s l)) g),
       )
 
-  -- Every other verdict is a no, and shows the first step at which what the table said is not contained in what it says after.
+  -- Every other verdict is a no ..
+  pub no-otherwise :
+      (growthOf (nodesWritten bytes lent) (tableOf bytes .columns) .verdict ≡ 1 → ⊥) →
+      growthOf (nodesWritten bytes lent) (tableOf bytes .columns) .verdict ≡ 2
+  no-otherwise = other-no (nodesWritten bytes lent) (tableOf bytes .columns) nodes-evaluate
+
+  -- .. and shows the first step at which what the table said is not contained in what it says after.
   pub no-shows-the-tables-first :
       (growthOf (nodesWritten bytes lent) (tableOf bytes .columns) .verdict ≡ 1 → ⊥) →
       Shows (says (tableOf bytes)) (tableOf bytes .columns) (growthOf (nodesWritten bytes lent) (tableOf bytes .columns))
   no-shows-the-tables-first v =
       shows-same (answerAt (nodesWritten bytes lent)) (says (tableOf bytes)) (tableOf bytes .columns)
       (growthOf (nodesWritten bytes lent) (tableOf bytes .columns)) nodes-say
-      (no-shows-the-first (nodesWritten bytes lent) (tableOf bytes .columns)
-      (other-no (nodesWritten bytes lent) (tableOf bytes .columns) nodes-evaluate v))
+      (no-shows-the-first (nodesWritten bytes lent) (tableOf bytes .columns) (no-otherwise v))
 
   -- Under a table that got a yes ..
   module _ (yes : growthOf (nodesWritten bytes lent) (tableOf bytes .columns) .verdict ≡ 1) where

@@ -1,5 +1,5 @@
 -- Demand 3, as someone who runs `tablecheck` sees it.
-use Prim.Native.Nat.{ℕ, _+_, _≤_}
+use Prim.Native.Nat.{ℕ, _+_, _≤_, _<_}
 use mathlib.Core.Path.{_≡_, refl, ap, ap₂, sym, _∙_, subst}
 use mathlib.Core.Logic.{_↔_}
 use mathlib.Core.Bool.{Bool, true, false}
@@ -7,25 +7,32 @@ use mathlib.Core.List.{List, _++_, map}
 use lib.Dec.{eqb, ltb}
 use lib.ListN.{length, getD, take, replicate, length-replicate}
 use lib.Seq.{getD-append-add, take-all, length-take-le}
-use borrow.Author.Tests.{eqb-true, eq-eqb, ne-eqb, ltb-true, ltb-false}
+use borrow.Author.Tests.{eqb-true, eq-eqb, ne-eqb, lt-ltb, ltb-true, ltb-false}
 use native.Mathlib.Omega.{arith}
+use Rattle.refusals.specs.Meaning.{refused, ROOM}
 use Rattle.answers.specs.Meaning.{number}
 use Rattle.answers.specs.declared.Answer.{Answer}
+use Rattle.answers.specs.declared.Answer.the-variants.{Silent}
 use Rattle.situations.specs.declared.Situation.{Situation}
-use Rattle.tables.specs.Meaning.{tableOf, says}
+use Rattle.tables.specs.Meaning.{tableOf, says, readOf}
 use Rattle.tables.specs.declared.TableRead.{TableRead}
 use Rattle.tables.proofs.Accepted.{read-accepted}
+use Rattle.accepting.proofs.TableEncoding.{read-formed}
+use Rattle.formula.specs.Meaning.{tableSize}
+use Rattle.formula.proofs.MostNodes.{narrow-most}
 use Rattle.compiler.specs.Meaning.{compileOf}
 use Rattle.compiler.specs.declared.Compiled.{Compiled}
 use Rattle.selection.proofs.Replies.{accepted-read, accepted-reply, fits-accepted}
 use Rattle.growth.specs.declared.Growth.{Growth}
 use Rattle.growth.specs.Meaning.{growthOf}
 use Rattle.growing.specs.Meaning.{Grows, FirstFailing}
+use Rattle.text.specs.Meaning.{refusalLine}
 use Rattle.lines.specs.Meaning.{growthYes, growthNo, countLines, answersText, raisedText, growthLine}
 use Rattle.judging.specs.Meaning.{textOf}
 use Rattle.situations.proofs.Columns.{byValue-numbers}
-use Rattle.promises.specs.Meaning.{Accepts, Compiles, nodesWritten}
-use Rattle.promises.proofs.Demand2Tables.{accepted-short, accepted-columns, count-at-most, accepted-writes-nodes}
+use Rattle.promises.specs.Meaning.{Accepts, defaultOf, Compiles, nodesWritten}
+use Rattle.promises.proofs.Demand2Tables.{accepted-short, accepted-columns, accepted-writes-nodes}
+use Rattle.promises.proofs.Defaults.{as-before-at-most}
 use Rattle.promises.proofs.Demand3.{yes-exactly-when-the-table-grows, no-shows-the-tables-first}
 
 -- behind the counts stands the line of the check
@@ -67,7 +74,7 @@ yes-printed before g e = go (eqb (g .verdict) 1) refl
     go true h = eqb-true (g .verdict) 1 h
     go false h = absurd (let z : _≡_ {A = ℕ} 110 121 = eighth _ (rw h at e) in omega arith)
 
--- every accepted table fits into a buffer of 4,223 bytes
+-- the room of `tablecheck`
 unfoldable room : List ℕ
 room = replicate 4223 0
 
@@ -75,8 +82,8 @@ room-long : length room ≡ 4223
 unfolding room
 room-long = length-replicate {A = ℕ} 4223 0
 
--- "The table is the first 1,024 bytes .. (no lawful table passes 644)": a table that is accepted is judged as it came, and no longer
--- input is judged as if it were accepted.
+-- "Judges its first 1,024 bytes", and "the longest lawful table becomes 648 bytes": a table that is accepted is judged as it came, and
+-- no longer input is judged as if it were accepted.
 whole : (input : List ℕ) → Accepts input → take 1024 input ≡ input
 whole input h = take-all 1024 input (let most = accepted-short input h in omega arith)
 
@@ -89,16 +96,37 @@ judged-as-it-came input = (λ h. go h (ltb 1024 (length input)) refl, λ h. subs
         absurd (let most = accepted-short (take 1024 input) h in omega (arith, long, most))
     go h false e = subst Accepts (take-all 1024 input (ltb-false 1024 (length input) e)) h
 
-module _ (bytes : List ℕ) (h : Accepts bytes) where
+-- "With 4,223 bytes of room": an accepted table that needs more, as some with a default other than silent do, is refused by ROOM,
+-- and the place printed is the count.
+pub prints-room :
+    (bytes : List ℕ) →
+    Accepts bytes →
+    4223 < tableSize (tableOf bytes) →
+    textOf (take 1024 bytes) ≡ refusalLine (refused ROOM (tableSize (tableOf bytes)))
+unfolding Accepts textOf compileOf
+prints-room bytes h large =
+    rw (whole bytes h, eq-eqb (readOf bytes .refusal .number) 0 h, lt-ltb 4223 (tableSize (tableOf bytes)) large)
+
+-- A table whose default is silent needs no more.
+pub silent-default-fits : (bytes : List ℕ) → Accepts bytes → defaultOf (tableOf bytes) ≡ Silent → tableSize (tableOf bytes) ≤ 4223
+unfolding Accepts
+silent-default-fits bytes h silent = as-before-at-most (tableOf bytes) silent (read-formed bytes h)
+
+-- Nor does a table of up to three columns, whatever its default.
+pub narrow-fits : (bytes : List ℕ) → Accepts bytes → tableOf bytes .columns ≤ 3 → tableSize (tableOf bytes) ≤ 4223
+unfolding Accepts
+narrow-fits bytes h three = narrow-most (tableOf bytes) (read-formed bytes h) three
+
+module _ (bytes : List ℕ) (h : Accepts bytes) (small : tableSize (tableOf bytes) ≤ 4223) where
   fits : Compiles bytes room
   unfolding Accepts Compiles
-  fits = rw room-long (fits-accepted bytes 4223 h (count-at-most bytes h))
+  fits = rw room-long (fits-accepted bytes 4223 h small)
 
   abbrev verdict : Growth
   verdict = growthOf (nodesWritten bytes room) (tableOf bytes .columns)
 
-  -- For every accepted table `growth yes` is printed behind the counts exactly when what the table says of each of any two
-  -- situations is contained in what it says of their merger.
+  -- For every accepted table that needs at most 4,223 nodes `growth yes` is printed behind the counts exactly when what the table
+  -- says of each of any two situations is contained in what it says of their merger.
   pub prints-yes-exactly :
       (textOf (take 1024 bytes) ≡ countLines (compileOf bytes 4223) ++ growthYes) ↔ Grows (says (tableOf bytes)) (tableOf bytes .columns)
   prints-yes-exactly =

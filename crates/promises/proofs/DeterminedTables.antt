@@ -8,8 +8,13 @@ use Rattle.rows.proofs.row_bytes as rows-row-bytes
 use Rattle.rows.proofs.cells as rows-cells
 use Rattle.rows.proofs.outcome as rows-outcome
 use Rattle.rows.proofs.first_overlap as rows-first-overlap
+use Rattle.matching.proofs.matched as matching-matched
 use Rattle.faults.proofs.columns_fault as faults-columns-fault
 use Rattle.faults.proofs.row_fault as faults-row-fault
+use Rattle.defaults.proofs.size as defaults-size
+use Rattle.defaults.proofs.fault as defaults-fault
+use Rattle.defaults.proofs.answer as defaults-answer
+use Rattle.tables.proofs.default_of as tables-default-of
 use Rattle.tables.proofs.rows_of as tables-rows-of
 use Rattle.tables.proofs.read_table as tables-read-table
 use Rattle.selectors.proofs.put_selector as selectors-put-selector
@@ -61,11 +66,26 @@ rows-outcome-determined = record { result = λ κs a x y s t p q. p ∙ sym q }
 pub rows-first-overlap-determined : Determined rows-first-overlap.Kinds.ps rows-first-overlap.Kinds.r rows-first-overlap.Reads.Post
 rows-first-overlap-determined = record { result = λ κs a x y s t p q. p ∙ sym q }
 
+pub matching-matched-determined : Determined matching-matched.Kinds.ps matching-matched.Kinds.r matching-matched.Reads.Post
+matching-matched-determined = record { result = λ κs a x y s t p q. p ∙ sym q }
+
 pub faults-columns-fault-determined : Determined faults-columns-fault.Kinds.ps faults-columns-fault.Kinds.r faults-columns-fault.Reads.Post
 faults-columns-fault-determined = record { result = λ κs a x y s t p q. p ∙ sym q }
 
 pub faults-row-fault-determined : Determined faults-row-fault.Kinds.ps faults-row-fault.Kinds.r faults-row-fault.Reads.Post
 faults-row-fault-determined = record { result = λ κs a x y s t p q. p ∙ sym q }
+
+pub defaults-size-determined : Determined defaults-size.Kinds.ps defaults-size.Kinds.r defaults-size.Reads.Post
+defaults-size-determined = record { result = λ κs a x y s t p q. p ∙ sym q }
+
+pub defaults-fault-determined : Determined defaults-fault.Kinds.ps defaults-fault.Kinds.r defaults-fault.Reads.Post
+defaults-fault-determined = record { result = λ κs a x y s t p q. p ∙ sym q }
+
+pub defaults-answer-determined : Determined defaults-answer.Kinds.ps defaults-answer.Kinds.r defaults-answer.Reads.Post
+defaults-answer-determined = record { result = λ κs a x y s t p q. p ∙ sym q }
+
+pub tables-default-of-determined : Determined tables-default-of.Kinds.ps tables-default-of.Kinds.r tables-default-of.Reads.Post
+tables-default-of-determined = record { result = λ κs a x y s t p q. p ∙ sym q }
 
 pub tables-rows-of-determined : DeterminedPart tables-rows-of.Kinds.ps 0 tt tables-rows-of.Reads.Post
 tables-rows-of-determined = record { bytes = λ κs a x y s t p q. p ∙ sym q }

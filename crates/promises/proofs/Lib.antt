@@ -6,6 +6,7 @@ pub mod Weeks
 pub mod Batches
 pub mod WeeksPrinted
 pub mod Demand3
+pub mod Defaults
 pub mod Demand3Merging
 pub mod Demand3Printed
 pub mod Operators

@@ -1,5 +1,5 @@
 -- Words in which the promises are said.
-use Prim.Native.Nat.{ℕ}
+use Prim.Native.Nat.{ℕ, _<_}
 use mathlib.Core.Path.{_≡_}
 use mathlib.Core.List.{List, [], _∷_, _++_}
 use borrow.Fn.Kinds.{PK, RK, In, Out, Dens, resT, endedOf}
@@ -13,12 +13,14 @@ use lib.Dec.{T}
 use lib.ListN.{length, take, replicate}
 use Rattle.refusals.specs.declared.Refusal.{Refusal}
 use Rattle.refusals.specs.Meaning.{none}
+use Rattle.answers.specs.declared.Answer.{Answer}
 use Rattle.answers.specs.declared.Answer.the-variants.{Silent, Bury}
 use Rattle.situations.specs.declared.Situation.{Situation}
 use Rattle.situations.specs.Meaning.{mergeOf}
-use Rattle.rows.specs.Meaning.{is, any}
+use Rattle.rows.specs.Meaning.{is, any, Row, row, matches}
+use Rattle.defaults.specs.Meaning.{unwritten, defaultAnswer}
 use Rattle.tables.specs.Meaning.{Table, readOf, tableOf}
-use Rattle.formula.specs.Meaning.{tableNodes}
+use Rattle.formula.specs.Meaning.{addedRows, tableNodes}
 use Rattle.compiler.specs.Meaning.{compileOf, writtenOf}
 use Rattle.replying.specs.Meaning.{published}
 
@@ -76,6 +78,17 @@ Merges s t = mergeOf s t .refusal .number ≡ 0
 -- Bytes that the reader of tables takes.
 unfoldable pub Accepts : List ℕ → Type 0
 Accepts bytes = readOf bytes .refusal .number ≡ 0
+
+-- No row of a table matches a situation.
+abbrev pub Unmatched : Table → List Answer → Type 0
+Unmatched t s = (i : ℕ) → i < length (t .rows) → T (matches (row (t .rows) i .cells) s) → ⊥
+
+-- A table's default, as an answer, and the rows that it adds.
+abbrev pub defaultOf : Table → Answer
+defaultOf t = defaultAnswer (t .default)
+
+abbrev pub addedTo : Table → List Row
+addedTo t = addedRows (defaultOf t) (t .columns) (t .rows)
 
 -- A table that the compiler accepts with this lent buffer.
 unfoldable pub Compiles : List ℕ → List ℕ → Type 0
@@ -136,6 +149,7 @@ abbrev pub largeTable : Table
 largeTable =
     record {
       columns = 4;
+      default = unwritten;
       rows =
           record { cells = replicate 4 (is Silent); outcome = Bury }
           ∷ replicate 63 (record { cells = is Bury ∷ replicate 3 any; outcome = Silent });
@@ -148,6 +162,22 @@ largeText =
     ++ (114 ∷ 111 ∷ 119 ∷ 115 ∷ 32 ∷ 54 ∷ 52 ∷ 10 ∷ [])
     ++ (110 ∷ 111 ∷ 100 ∷ 101 ∷ 115 ∷ 32 ∷ 51 ∷ 57 ∷ 10 ∷ [])
     ++ (103 ∷ 114 ∷ 111 ∷ 119 ∷ 116 ∷ 104 ∷ 32 ∷ 110 ∷ 111 ∷ 32 ∷ 48 ∷ 32 ∷ 48 ∷ 32 ∷ 48 ∷ 32 ∷ 48 ∷ 32 ∷ 99 ∷ 111 ∷ 108 ∷ 117 ∷ 109 ∷ 110 ∷ 32 ∷ 48 ∷ 32 ∷ 116 ∷ 111 ∷ 32 ∷ 49 ∷ 10 ∷ [])
+
+-- Keep where the column is keep, else the default, bury.
+unfoldable pub keepElseBury : List ℕ
+keepElseBury = 1 ∷ 0 ∷ 1 ∷ 1 ∷ 3 ∷ 0 ∷ 1 ∷ 1 ∷ 2 ∷ 0 ∷ 2 ∷ 2 ∷ 2 ∷ []
+
+-- For it: "columns 1", "rows 1", "nodes 30", "growth no 0 column 0 to 2".
+abbrev pub keepElseBuryText : List ℕ
+keepElseBuryText =
+    (99 ∷ 111 ∷ 108 ∷ 117 ∷ 109 ∷ 110 ∷ 115 ∷ 32 ∷ 49 ∷ 10 ∷ [])
+    ++ (114 ∷ 111 ∷ 119 ∷ 115 ∷ 32 ∷ 49 ∷ 10 ∷ [])
+    ++ (110 ∷ 111 ∷ 100 ∷ 101 ∷ 115 ∷ 32 ∷ 51 ∷ 48 ∷ 10 ∷ [])
+    ++ (103 ∷ 114 ∷ 111 ∷ 119 ∷ 116 ∷ 104 ∷ 32 ∷ 110 ∷ 111 ∷ 32 ∷ 48 ∷ 32 ∷ 99 ∷ 111 ∷ 108 ∷ 117 ∷ 109 ∷ 110 ∷ 32 ∷ 48 ∷ 32 ∷ 116 ∷ 111 ∷ 32 ∷ 50 ∷ 10 ∷ [])
+
+-- For the table that needs the most nodes: "refused 8 200771 0".
+abbrev pub mostText : List ℕ
+mostText = (114 ∷ 101 ∷ 102 ∷ 117 ∷ 115 ∷ 101 ∷ 100 ∷ 32 ∷ 56 ∷ 32 ∷ 50 ∷ 48 ∷ 48 ∷ 55 ∷ 55 ∷ 49 ∷ 32 ∷ 48 ∷ 10 ∷ [])
 
 -- The numbers of a batch's refusal, which stand beside its counts.
 pub record WeekReplied (r : Refusal) : Type 0 where

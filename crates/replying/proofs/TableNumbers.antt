@@ -14,7 +14,8 @@ use Rattle.situations.specs.Meaning.{outside}
 use Rattle.rows.specs.Meaning.{rowWidth, rowCount, pairFault, overlapOf, overlapIn, disagreeAt, firstOverlap}
 use Rattle.tables.specs.declared.TableRead.{TableRead}
 use Rattle.faults.specs.Meaning.{columnsOf, otherTag, rowTooMany, otherLength, cellsAt, valueFault, columnsFault, rowFault}
-use Rattle.tables.specs.Meaning.{rowsStart, rowsPart, tableOf, refuseTable, acceptTable, rowsFrom, fieldsOf, readOf}
+use Rattle.defaults.specs.Meaning.{hasDefault, defaultFault}
+use Rattle.tables.specs.Meaning.{behindColumns, rowsStart, rowsPart, tableOf, refuseTable, acceptTable, rowsFrom, fieldsOf, readOf}
 use Rattle.compiler.specs.declared.Compiled.{Compiled}
 use Rattle.formula.specs.Meaning.{tableSize}
 use Rattle.compiler.specs.Meaning.{refuseCompiled, compileOf}
@@ -31,6 +32,16 @@ columnsFault-numbers t =
     (numbers-cond (otherLength 1 t) LEN 0 tt
     (numbers-cond (shortValue 1 t) SHORT 0 tt
     (numbers-cond (outside (columnsOf t)) VALUE 3 tt numbers-none)))))
+
+defaultFault-numbers : (part : List ℕ) → Numbers (defaultFault part)
+unfolding defaultFault
+defaultFault-numbers part =
+    either Numbers (hasDefault part) _ none
+    (numbers-cond (shortHeader part) SHORT 4 tt
+    (numbers-cond (otherLength 1 part) LEN 4 tt
+    (numbers-cond (shortValue 1 part) SHORT 4 tt
+    (numbers-cond (ltb 3 (getD part 3 0)) VALUE 7 tt numbers-none))))
+    numbers-none
 
 rowFault-numbers : (left n at : ℕ) (rows : List ℕ) → Numbers (rowFault left n at rows)
 unfolding rowFault valueFault
@@ -85,8 +96,10 @@ rowsFrom-read (suc left) n at rows =
 fieldsOf-read : (t : List ℕ) → Read (fieldsOf t)
 unfolding fieldsOf
 fieldsOf-read t =
-    read-after (columnsFault t) (rowsFrom 64 (columnsOf t) rowsStart (rowsPart t)) (columnsFault-numbers t)
-    (rowsFrom-read 64 (columnsOf t) rowsStart (rowsPart t))
+    let rows = rowsFrom 64 (columnsOf t) (rowsStart t) (rowsPart t) in
+    let default = defaultFault (behindColumns t) in
+    read-after (columnsFault t) (after default refuseTable rows) (columnsFault-numbers t)
+    (read-after default rows (defaultFault-numbers (behindColumns t)) (rowsFrom-read 64 (columnsOf t) (rowsStart t) (rowsPart t)))
 
 pub readOf-read : (t : List ℕ) → Read (readOf t)
 unfolding readOf

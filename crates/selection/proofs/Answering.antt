@@ -1,4 +1,4 @@
--- A compiled table answers what its rows say: the join of what each row says alone, which is what the matching row says.
+-- Rows as nodes answer what the rows say: the join of what each row says alone, which is what the matching row says, else silent.
 use Prim.Native.Nat.{ℕ, suc, _+_, _≤_, _<_}
 use mathlib.Core.Path.{_≡_, refl}
 use mathlib.Core.Logic.{_⊎_, inl, inr}
@@ -14,10 +14,10 @@ use Rattle.answers.specs.declared.Answer.the-variants.{Silent, Bury, Keep, Clas
 use Rattle.answers.proofs.Every.{each}
 use Rattle.answers.proofs.Laws.{join-assoc, join-same}
 use Rattle.rows.specs.Meaning.{Row, row, matches}
-use Rattle.tables.specs.Meaning.{Table, rowsSay}
+use Rattle.tables.specs.Meaning.{rowsSay}
 use Rattle.accepting.proofs.Saying.{Said, says-none, says-either}
 use Rattle.running.proofs.Leads.{Leads, still, leads-append, leads-constant, leads-join}
-use Rattle.formula.specs.Meaning.{isSilent, rowNodes, rowsLeft, followed, together, tableNodes}
+use Rattle.formula.specs.Meaning.{isSilent, rowNodes, rowsLeft, followed, together, rowsNodes}
 use Rattle.selection.proofs.Picking.{leads-row}
 
 -- what a row says alone, and all rows together
@@ -31,7 +31,7 @@ saysTogether s (r ∷ rows) = join (saysAlone s r) (saysTogether s rows)
 join-silent : (x : Answer) → join x Silent ≡ x
 join-silent = each _ (search refl)
 
-silent-is : (a : Answer) → number a ≡ 0 → a ≡ Silent
+pub silent-is : (a : Answer) → number a ≡ 0 → a ≡ Silent
 silent-is Silent h = refl
 silent-is Bury h = absurd (omega (arith, h))
 silent-is Keep h = absurd (omega (arith, h))
@@ -85,11 +85,8 @@ module _ (height : ℕ) (s : List Answer) (stack : List Answer) (room : length s
           (leads-append {xs = 7 ∷ []} leads-join (again (join x (saysAlone s r)))))
 
   -- all rows
-  all-lead :
-      (rows : List Row) →
-      Wide s rows →
-      Leads height s (together 7 0 (map rowNodes (rowsLeft rows))) stack (saysTogether s rows ∷ stack)
-  unfolding rowsLeft together saysTogether Wide
+  pub all-lead : (rows : List Row) → Wide s rows → Leads height s (rowsNodes rows) stack (saysTogether s rows ∷ stack)
+  unfolding rowsNodes rowsLeft together saysTogether Wide
   all-lead [] w = leads-constant Silent (omega arith)
   all-lead (r ∷ rows) w = go (isSilent (r .outcome)) refl (all-lead rows (wide-rest s r rows w))
     where
@@ -103,11 +100,6 @@ module _ (height : ℕ) (s : List Answer) (stack : List Answer) (room : length s
       go false e again =
           leads-append (row-leads r stack (eqb-false (number (r .outcome)) 0 e) (w 0 (omega arith)) (omega arith))
           (rows-lead rows (saysAlone s r) (wide-rest s r rows w))
-
-  -- a table
-  pub table-leads : (t : Table) → Wide s (t .rows) → Leads height s (tableNodes t) stack (saysTogether s (t .rows) ∷ stack)
-  unfolding tableNodes
-  table-leads t w = all-lead (t .rows) w
 
 -- Rows that match one situation agree.
 unfoldable pub Agree : List Answer → List Row → Type 0
@@ -124,19 +116,19 @@ unfolding Agree
 agree-rest s r rows a i j l k = a (suc i) (suc j) (omega arith) (omega arith)
 
 -- together they say what the matching row says
-pub together-says : (s : List Answer) (rows : List Row) → Agree s rows → saysTogether s rows ≡ rowsSay rows s
+pub together-says : (s : List Answer) (rows : List Row) → Agree s rows → saysTogether s rows ≡ rowsSay Silent rows s
 unfolding saysTogether rowsSay Agree
 together-says s [] a = refl
-together-says s (r ∷ rows) a = go (matches (r .cells) s) refl (together-says s rows (agree-rest s r rows a)) (says-either rows s)
+together-says s (r ∷ rows) a = go (matches (r .cells) s) refl (together-says s rows (agree-rest s r rows a)) (says-either Silent rows s)
   where
     go :
         (b : Bool) →
         matches (r .cells) s ≡ b →
-        saysTogether s rows ≡ rowsSay rows s →
-        ((i : ℕ) → i < length rows → T (matches (row rows i .cells) s) → ⊥) ⊎ ((i : ℕ) × Said rows s i) →
-        join (cond b (r .outcome) Silent) (saysTogether s rows) ≡ cond b (r .outcome) (rowsSay rows s)
+        saysTogether s rows ≡ rowsSay Silent rows s →
+        ((i : ℕ) → i < length rows → T (matches (row rows i .cells) s) → ⊥) ⊎ ((i : ℕ) × Said Silent rows s i) →
+        join (cond b (r .outcome) Silent) (saysTogether s rows) ≡ cond b (r .outcome) (rowsSay Silent rows s)
     go false e h m = h
-    go true e h (inl f) = rw (h, says-none rows s f) (join-silent (r .outcome))
+    go true e h (inl f) = rw (h, says-none Silent rows s f) (join-silent (r .outcome))
     go true e h (inr z) =
         let same : row rows (z .0) .outcome ≡ r .outcome =
         a (suc (z .0)) 0 (let l = z .1 .inside in omega arith) (omega arith) (z .1 .matched) (rw e tt) in

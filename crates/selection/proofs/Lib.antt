@@ -1,4 +1,6 @@
 pub mod Picking
+pub mod AddedRows
 pub mod Answering
+pub mod AllRows
 pub mod Trees
 pub mod Replies

@@ -11,10 +11,11 @@ use Rattle.situations.specs.Meaning.{fault, answersOf}
 use Rattle.tables.specs.Meaning.{Table, WellFormed, Consistent, says}
 use Rattle.nodes.specs.Meaning.{full, run, evaluateOf}
 use Rattle.running.proofs.Leads.{leads-answer}
-use Rattle.formula.specs.Meaning.{tableNodes}
-use Rattle.selection.proofs.Answering.{Wide, Agree, together-says, table-leads}
+use Rattle.formula.specs.Meaning.{tableRows, tableNodes}
+use Rattle.selection.proofs.Answering.{together-says, all-lead}
+use Rattle.selection.proofs.AllRows.{tableRows-wide, tableRows-agree, tableRows-say}
 
--- at every situation of the table's columns the nodes answer what the rows say
+-- at every situation of the table's columns the nodes answer what the table says
 pub tree-run :
     (t : Table) →
     WellFormed t →
@@ -22,11 +23,10 @@ pub tree-run :
     (s : List Answer) →
     length s ≡ t .columns →
     run full s 0 [] (tableNodes t) ≡ succeed (says t s)
-unfolding Wide Agree
+unfolding tableNodes
 tree-run t w c s long =
-    let wide : Wide s (t .rows) = λ i l. (rw (w .wide i l) (w .few-columns), rw (w .wide i l, long) (omega arith)) in
-    let agree : Agree s (t .rows) = λ i j k l. c .agree i j k l s long in
-    leads-answer 0 (table-leads 16 s [] (omega arith) t wide) ∙ ap succeed (together-says s (t .rows) agree)
+    leads-answer 0 (all-lead 16 s [] (omega arith) (tableRows t) (tableRows-wide t w s long))
+    ∙ ap succeed (together-says s (tableRows t) (tableRows-agree t w s long c) ∙ tableRows-say t w s long c)
 
 -- "For every accepted table and every situation of its columns, evaluating the nodes succeeds and answers what the table says."
 pub tree-answers :
