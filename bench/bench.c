@@ -11,9 +11,9 @@
 
 #include "carmuspeno.h"
 
-enum { MOST_NODES = 4223, NOTICES = 64 };
+enum { NOTICES = 64 };
 
-static uint8_t table[1024], nodes[MOST_NODES], notice[32 * 9], voice[200], batch[NOTICES * (3 + sizeof notice)];
+static uint8_t table[1024], nodes[CARM_NODES_MAX], notice[32 * 9], voice[200], batch[NOTICES * (3 + sizeof notice)];
 static size_t table_len, nodes_len, notice_len, voice_len, batch_len;
 
 /* a reply printed, but not on the stack that is measured */
@@ -27,6 +27,14 @@ static void start_table(uint8_t columns)
     const uint8_t head[] = { 1, 0, 1, columns };
     memcpy(table, head, sizeof head);
     table_len = sizeof head;
+}
+
+/* directly after the columns */
+static void add_default(uint8_t answer)
+{
+    const uint8_t field[] = { 3, 0, 1, answer };
+    memcpy(table + table_len, field, sizeof field);
+    table_len += sizeof field;
 }
 
 static void add_row(const uint8_t *row)
@@ -45,11 +53,30 @@ static void laptop(void)
     for (int row = 0; row < 6; row++) add_row(rows[row]);
 }
 
-/* 64 equal rows: every pair is looked at, and no table has more nodes */
+static void add_largest_rows(void)
+{
+    for (int row = 0; row < 64; row++) add_row((const uint8_t[]){ 0, 0, 0, 0, 0, 0, 3 });
+}
+
+/* 64 equal rows: every pair is looked at, and no table without a default has more nodes */
 static void largest(void)
 {
     start_table(6);
-    for (int row = 0; row < 64; row++) add_row((const uint8_t[]){ 0, 0, 0, 0, 0, 0, 3 });
+    add_largest_rows();
+}
+
+/* the same rows, and bury in the 4,095 other situations: no table has more nodes */
+static void largest_default(void)
+{
+    start_table(6);
+    add_default(1);
+    add_largest_rows();
+}
+
+static void default_only(void)
+{
+    start_table(6);
+    add_default(3);
 }
 
 /* grows, in six columns: keep where a column clashes, bury nowhere */
@@ -220,6 +247,8 @@ static const struct {
 } jobs[] = {
     { "compile-laptop", "compile", "L, 65 nodes", 200, laptop, do_compile },
     { "compile-largest", "compile", "largest table, 4,223 nodes", 10, largest, do_compile },
+    { "compile-default", "compile", "worst table with a default, 200,771 nodes", 1, largest_default, do_compile },
+    { "compile-default-only", "compile", "no rows, default clash, six columns, 196,607 nodes", 1, default_only, do_compile },
     { "evaluate-laptop", "evaluate", "L at (2, 1)", 1000, make_laptop_nodes, evaluate_two },
     { "evaluate-largest", "evaluate", "largest table, all silent", 20, make_largest_nodes, evaluate_six },
     { "growth-laptop", "check_growth", "L: no", 100, make_laptop_nodes, growth_two },

@@ -109,7 +109,8 @@ static uint8_t *write_turned(uint8_t *to, unsigned column, unsigned turns)
     return to;
 }
 
-static uint8_t *write_row(uint8_t *to, const uint8_t *row, unsigned columns)
+/* a row, joined to those before it */
+static uint8_t *write_row(uint8_t *to, const uint8_t *row, unsigned columns, int further)
 {
     unsigned outcome = row[columns];
     int first = 1;
@@ -125,7 +126,28 @@ static uint8_t *write_row(uint8_t *to, const uint8_t *row, unsigned columns)
         first = 0;
     }
     if (first) *to++ = (uint8_t)outcome;
+    if (further) *to++ = JOIN;
     return to;
+}
+
+/* whether one of the rows matches this situation */
+static int matched(const uint8_t *first, size_t rows, const uint8_t *situation, unsigned columns)
+{
+    for (size_t row = 0; row < rows; row++) {
+        const uint8_t *cells = first + row * (columns + 4);
+        unsigned i = 0;
+        while (i < columns && (cells[i] == 4 || cells[i] == situation[i])) i++;
+        if (i == columns) return 1;
+    }
+    return 0;
+}
+
+/* the next situation in base 4, 0 where there is none */
+static int next(uint8_t *situation, unsigned columns)
+{
+    for (unsigned i = columns; i-- > 0; situation[i] = 0)
+        if (++situation[i] < 4) return 1;
+    return 0;
 }
 
 carm_compiled carm_compile(const uint8_t *table, size_t table_len, uint8_t *nodes, size_t nodes_len)
@@ -138,8 +160,17 @@ carm_compiled carm_compile(const uint8_t *table, size_t table_len, uint8_t *node
     unsigned columns = table[3];
     if (columns < 1 || columns > 6) return table_refused(VALUE, 3, 0);
 
-    size_t rows = 0, field = columns + 4, at;
-    for (at = 4; at < table_len; at += field, rows++) {
+    /* the default, and the situation that it answers as a row of its own */
+    uint8_t other[7] = { 0 };
+    size_t rows = 0, field = columns + 4, start = 4, at;
+    if (table_len >= 7 && table[4] == 3) {
+        if (table[5] != 0 || table[6] != 1) return table_refused(LEN, 4, 0);
+        if (table_len < 8) return table_refused(SHORT, 4, 0);
+        if (table[7] > 3) return table_refused(VALUE, 7, 0);
+        other[columns] = table[7];
+        start = 8;
+    }
+    for (at = start; at < table_len; at += field, rows++) {
         const uint8_t *f = table + at;
         if (table_len - at < 3) return table_refused(SHORT, at, 0);
         if (f[0] != 2) return table_refused(TAG, at, 0);
@@ -150,7 +181,7 @@ carm_compiled carm_compile(const uint8_t *table, size_t table_len, uint8_t *node
             if (f[3 + i] > (i < columns ? 4 : 3)) return table_refused(VALUE, at + 3 + i, 0);
     }
 
-    const uint8_t *first = table + 7;
+    const uint8_t *first = table + start + 3;
     for (size_t later = 1; later < rows; later++)
         for (size_t earlier = 0; earlier < later; earlier++)
             if (disagree(first + later * field, first + earlier * field, columns))
@@ -162,15 +193,25 @@ carm_compiled carm_compile(const uint8_t *table, size_t table_len, uint8_t *node
         size += row_size(first + row * field, columns);
         left++;
     }
+    if (other[columns]) {
+        do {
+            if (matched(first, rows, other, columns)) continue;
+            size += row_size(other, columns);
+            left++;
+        } while (next(other, columns));
+    }
     size = left ? size + left - 1 : 1;
     if (size > nodes_len) return table_refused(ROOM, size, 0);
 
     uint8_t *to = nodes;
     for (size_t row = 0; row < rows; row++) {
         if (first[row * field + columns] == 0) continue;
-        uint8_t *start = to;
-        to = write_row(to, first + row * field, columns);
-        if (start != nodes) *to++ = JOIN;
+        to = write_row(to, first + row * field, columns, to != nodes);
+    }
+    if (other[columns]) {
+        do {
+            if (!matched(first, rows, other, columns)) to = write_row(to, other, columns, to != nodes);
+        } while (next(other, columns));
     }
     if (left == 0) *to = 0;
     return (carm_compiled){ 0, 0, 0, columns, rows, size };

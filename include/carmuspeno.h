@@ -29,14 +29,14 @@ enum { CARM_ANY = 4 };
 /* What the growth check says: neither in a refusal. */
 enum { CARM_NEITHER = 0, CARM_YES = 1, CARM_NO = 2 };
 
-/* Room that is enough for the nodes of every lawful table. */
-#define CARM_NODES_MAX 4223
+/* Room that is enough for the nodes of every lawful table. Where no table has a default other than silent, 4,223 bytes are. */
+#define CARM_NODES_MAX 200771
 
 /* Refusals, and what `place` is. Numbers 15 and 22 to 27 are unused. */
 enum {
     CARM_SHORT = 1,      /* a field is cut short; its offset */
     CARM_START = 2,      /* a table does not start with its number of columns; 0 */
-    CARM_TAG = 3,        /* a field of another tag; its offset */
+    CARM_TAG = 3,        /* a field of another tag, or a default that is not directly behind the columns; its offset */
     CARM_LEN = 4,        /* a field of another length; its offset */
     CARM_VALUE = 5,      /* a byte out of range; its offset in a table, its index among an operator's operands */
     CARM_ROWS = 6,       /* a 65th row; its offset */
@@ -59,7 +59,7 @@ enum {
 
 typedef struct { uint64_t number, place, second, answer; } carm_answer;
 
-/* The table's columns, the rows read (silent ones too) and the nodes written. */
+/* The table's columns, the rows read (silent ones too, but not those that a default stands for) and the nodes written. */
 typedef struct { uint64_t number, place, second, columns, rows, nodes; } carm_compiled;
 
 /* One answer per column; the bytes from `length` on carry none. */
@@ -106,7 +106,9 @@ carm_answer carm_replace(uint8_t x, uint8_t p, uint8_t q);
 /* 1 if p is contained in q, else 0. */
 carm_answer carm_contained(uint8_t p, uint8_t q);
 
-/* Judges a table and writes its nodes to the front of the lent buffer; the bytes behind them stay. */
+/* Judges a table and writes its nodes to the front of the lent buffer; the bytes behind them stay. A table is its number of
+ * columns, then a default if it has one (tag 3, length 1, an answer), then up to 64 rows; the longest has 648 bytes. With a
+ * default other than silent, each situation that no row matches counts as a row whose outcome is the default. */
 carm_compiled carm_compile(const uint8_t *table, size_t table_len, uint8_t *nodes, size_t nodes_len);
 
 /* The answer of an array of nodes in a situation of `situation_len` columns. Any array may be given. */

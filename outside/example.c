@@ -19,7 +19,7 @@ static const char *const words[] = { "silent", "bury", "keep", "clash" };
 
 int main(void)
 {
-    uint8_t nodes[CARM_NODES_MAX]; /* room for every lawful table */
+    static uint8_t nodes[CARM_NODES_MAX]; /* room for every lawful table; too much for a small stack */
     carm_compiled made = carm_compile(table, sizeof table, nodes, sizeof nodes);
     if (made.number != 0) {
         printf("refused %" PRIu64 " at %" PRIu64 "\n", made.number, made.place);
@@ -65,7 +65,8 @@ int main(void)
     carm_situation laptop = { 2, { CARM_KEEP, CARM_SILENT } }, library = { 2, { CARM_SILENT, CARM_BURY } };
     carm_merged both = carm_merge(laptop, library);
     said = carm_evaluate(nodes, made.nodes, both.situation.answers, both.situation.length);
-    printf("merged: %s %s, and the table says %s\n", words[both.situation.answers[0]], words[both.situation.answers[1]], words[said.answer]);
+    const uint8_t *merged = both.situation.answers;
+    printf("merged: %s %s, and the table says %s\n", words[merged[0]], words[merged[1]], words[said.answer]);
 
     /* one byte of room too few */
     carm_compiled refused = carm_compile(table, sizeof table, nodes, made.nodes - 1);

@@ -23,10 +23,11 @@ pub fn compile(bytes: &[u8], lent: &mut [u8]) -> Result<Compiled, Refusal> {
     Ok(Compiled { columns: table.columns, rows: table.rows.len(), nodes: nodes.len() })
 }
 
-/// The rows that are not silent, joined; the constant 0 where there is none.
+/// The rows that are not silent, then the default's, joined; the constant 0 where there is none.
 pub fn nodes_of(table: &Table) -> Vec<u8> {
-    let rows = table.rows.iter().filter(|row| row.outcome != Answer::Silent).map(row_nodes);
-    folded(rows, JOIN).unwrap_or_else(|| vec![Answer::Silent.number()])
+    let default_rows = table.default_rows();
+    let rows = table.rows.iter().filter(|row| row.outcome != Answer::Silent).chain(&default_rows);
+    folded(rows.map(row_nodes), JOIN).unwrap_or_else(|| vec![Answer::Silent.number()])
 }
 
 fn row_nodes(row: &Row) -> Vec<u8> {

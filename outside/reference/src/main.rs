@@ -6,27 +6,35 @@
 //! reference batch N [SEED]            a batch of N notices of 32 facts each, the values random
 
 use reference::random::Random;
-use reference::{calls, listed, random, tablecheck, valid, weekcount};
+use reference::{calls, listed, listed_defaults, random, tablecheck, valid, weekcount};
 use std::fs;
 use std::io::{self, BufRead, BufWriter, Read, Write};
 use std::process::ExitCode;
 
-/// The stored calls: those that are named, then this many random ones, then this many random weeks.
+/// The stored calls: those that are named, then this many random ones, then this many random weeks; behind them those that are
+/// named of tables with a default, then this many random ones.
 const STORED: usize = 6000;
 const STORED_WEEKS: usize = 500;
+const STORED_DEFAULTS: usize = 1000;
 const STORED_SEED: u64 = 1;
 
 fn stored_calls() -> impl Iterator<Item = String> {
-    let [mut random, mut random_2] = [Random::new(STORED_SEED), Random::new(STORED_SEED)];
-    let random_calls = (0..STORED).map(move |_| random::call(&mut random));
-    let random_weeks = (0..STORED_WEEKS).map(move |_| random::week(&mut random_2));
-    listed::calls().into_iter().chain(random_calls).chain(random_weeks)
+    let drawn = |wanted: usize, draw: fn(&mut Random) -> String| {
+        let mut random = Random::new(STORED_SEED);
+        (0..wanted).map(move |_| draw(&mut random))
+    };
+    let before_defaults = listed::calls().into_iter().chain(drawn(STORED, random::call)).chain(drawn(STORED_WEEKS, random::week));
+    before_defaults.chain(listed_defaults::calls()).chain(drawn(STORED_DEFAULTS, random::defaulted))
 }
 
-/// One in ten is a week.
+/// One in ten is a week, two in ten are about a table with a default.
 fn random_calls(wanted: usize, seed: u64) -> impl Iterator<Item = String> {
     let mut random = Random::new(seed);
-    (0..wanted).map(move |at| if at % 10 == 9 { random::week(&mut random) } else { random::call(&mut random) })
+    (0..wanted).map(move |at| match at % 10 {
+        9 => random::week(&mut random),
+        7 | 8 => random::defaulted(&mut random),
+        _ => random::call(&mut random),
+    })
 }
 
 fn main() -> ExitCode {

@@ -175,6 +175,14 @@ fn compile(random: &mut Random, distance: Distance) -> String {
     } else {
         disturb(random, &mut table, distance, IN_TABLES);
     }
+    compile_line(random, &table, needed)
+}
+
+/// No longer than the longest argument of a call.
+const LONGEST: usize = 4300;
+
+/// A table and the room for its nodes: often just enough, or one byte too little.
+fn compile_line(random: &mut Random, table: &[u8], needed: usize) -> String {
     let room = match random.below(6) {
         0 => needed.saturating_sub(1),
         1 | 2 => needed,
@@ -182,7 +190,50 @@ fn compile(random: &mut Random, distance: Distance) -> String {
         4 => random.below(2 * needed + 2),
         _ => random.below(300),
     };
-    format!("compile {} {}", hex(&table), room.min(4300))
+    format!("compile {} {}", hex(table), room.min(LONGEST))
+}
+
+/// A call about a table with a default: mostly its bytes, lawful or not, else its nodes.
+pub fn defaulted(random: &mut Random) -> String {
+    let distance = random.pick(&[Distance::Valid, Distance::Valid, Distance::OneByte, Distance::Far]);
+    let columns = random.pick(&[1, 1, 2, 2, 2, 3, 3, 3, 4, 5, 6]);
+    let mut table = valid::defaulted_table(random, columns);
+    let nodes = nodes_of(&tables::read(&table).expect("a lawful table"));
+    match random.below(8) {
+        0 if nodes.len() <= LONGEST => {
+            let situation = valid::situation(random, columns);
+            format!("evaluate {} {}", hex(&nodes), hex(&situation))
+        }
+        1 if columns <= 3 => format!("growth {} {columns}", hex(&nodes)),
+        _ => {
+            disturb_defaulted(random, &mut table, columns, distance);
+            compile_line(random, &table, nodes.len())
+        }
+    }
+}
+
+/// Anywhere in the table, or at its default only; or with rows that may disagree, or a default where none may stand.
+fn disturb_defaulted(random: &mut Random, table: &mut Vec<u8>, columns: usize, distance: Distance) {
+    match random.below(4) {
+        0 => {
+            let rows = table.split_off(8);
+            disturb(random, table, distance, IN_TABLES);
+            table.extend(rows);
+        }
+        1 if distance == Distance::Far => {
+            let rows = valid::rows(random, columns, 6);
+            *table = valid::with_default(&valid::table_bytes(columns as u8, &rows), random.byte(4));
+        }
+        2 if distance == Distance::Far => {
+            let fields = (table.len() - 8) / (columns + 4);
+            let at = 8 + random.below(fields + 1) * (columns + 4);
+            table.splice(at..at, valid::field(3, &[random.byte(4)]));
+            if random.one_in(2) {
+                table.drain(4..8);
+            }
+        }
+        _ => disturb(random, table, distance, IN_TABLES),
+    }
 }
 
 /// An array made by hand or compiled from a table.
@@ -293,9 +344,6 @@ fn voice(call: &str, random: &mut Random, distance: Distance) -> String {
     format!("{call} {} {}", hex(&notice), hex(&voice))
 }
 
-/// No longer than the longest argument of a call.
-const LONGEST_BATCH: usize = 4300;
-
 /// Notices that are lawful, nearly so or broken, in a batch that is so too, and a voice that mostly is lawful.
 pub fn week(random: &mut Random) -> String {
     let distance = random.pick(&[Distance::Valid, Distance::Valid, Distance::OneByte, Distance::Far]);
@@ -304,7 +352,7 @@ pub fn week(random: &mut Random) -> String {
     let mut batch = Vec::new();
     for _ in 0..wanted {
         let notice = week_notice(random, &facts);
-        if batch.len() + 3 + notice.len() < LONGEST_BATCH - 8 {
+        if batch.len() + 3 + notice.len() < LONGEST - 8 {
             batch.extend(valid::field(17, &notice));
         }
     }

@@ -18,6 +18,24 @@ pub fn table_bytes(columns: u8, rows: &[Vec<u8>]) -> Vec<u8> {
     bytes
 }
 
+/// A table with a default's field behind its columns.
+pub fn with_default(table: &[u8], default: u8) -> Vec<u8> {
+    let (columns, rows) = table.split_at(4);
+    [columns, &field(3, &[default]), rows].concat()
+}
+
+/// Rows of which no two overlap and which match every situation but those that begin with these answers: at each of these
+/// columns the three other answers have a row.
+pub fn rows_beside(begin: &[u8], columns: usize, mut outcome: impl FnMut() -> u8) -> Vec<Vec<u8>> {
+    let mut rows = Vec::new();
+    for (column, &answer) in begin.iter().enumerate() {
+        for other in (0..4).filter(|&other| other != answer) {
+            rows.push([&begin[..column], &[other], &vec![4; columns - column - 1], &[outcome()]].concat());
+        }
+    }
+    rows
+}
+
 pub fn columns(random: &mut Random) -> usize {
     random.pick(&[1, 1, 2, 2, 2, 3, 3, 3, 4, 4, 5, 6])
 }
@@ -52,6 +70,18 @@ pub fn table(random: &mut Random, columns: usize) -> Vec<u8> {
         }
     }
     table_bytes(columns as u8, &rows)
+}
+
+/// A table with a default and without OVERLAP; from four columns on few situations are left to the default.
+pub fn defaulted_table(random: &mut Random, columns: usize) -> Vec<u8> {
+    let written = if columns > 3 || random.one_in(3) {
+        let left = random.below(columns.min(3) + 1);
+        let begin = situation(random, columns - left);
+        table_bytes(columns as u8, &rows_beside(&begin, columns, || random.byte(4)))
+    } else {
+        table(random, columns)
+    };
+    with_default(&written, random.pick(&[0, 1, 1, 2, 2, 3, 3]))
 }
 
 /// An array that leaves one answer, over columns below the given number. `turns` out of 8 unary operators turn; with

@@ -1,5 +1,7 @@
 //! What the documents say twice, held against itself: by another count, by all pairs, by all situations, by all choices.
 
+mod sizes;
+
 use reference::answers::{self, contained, Answer, ALL};
 use reference::calls::{reply, unhex};
 use reference::compile::nodes_of;
@@ -12,25 +14,28 @@ use reference::situations::{from_index, index};
 use reference::tables::{self, Table};
 use reference::weeks::{self, Week};
 use reference::{batches, growth, valid, voices, weekcount};
+use sizes::size;
 use std::collections::BTreeSet;
 
 fn situations(columns: usize) -> Vec<Vec<Answer>> {
     (0..4usize.pow(columns as u32)).map(|number| from_index(number, columns)).collect()
 }
 
+/// Half of them with a default's field.
 fn random_tables(seed: u64, wanted: usize) -> Vec<Table> {
     let mut random = Random::new(seed);
     let mut tables = Vec::new();
-    for _ in 0..wanted {
+    for _ in 0..wanted / 2 {
         let columns = valid::columns(&mut random).min(4);
         tables.push(tables::read(&valid::table(&mut random, columns)).expect("a lawful table"));
+        tables.push(tables::read(&valid::defaulted_table(&mut random, columns)).expect("a lawful table"));
     }
     tables
 }
 
 #[test]
 fn compiled_tables_answer_as_the_matching_row_says() {
-    for table in random_tables(2, 400) {
+    for table in random_tables(2, 800) {
         let nodes = nodes_of(&table);
         for situation in situations(table.columns) {
             assert_eq!(run(&nodes, &situation), Ok(table.says(&situation)));
@@ -38,39 +43,9 @@ fn compiled_tables_answer_as_the_matching_row_says() {
     }
 }
 
-/// The number of nodes by the sizes that the document prints.
-fn size(table: &Table) -> usize {
-    let rows = table.rows.iter().filter(|row| row.outcome != Answer::Silent);
-    let sizes: Vec<usize> = rows
-        .map(|row| {
-            let selectors: Vec<usize> = row.cells.iter().flatten().map(|&cell| selector_size(cell, row.outcome)).collect();
-            operators_and(&selectors)
-        })
-        .collect();
-    operators_and(&sizes)
-}
-
-/// Parts with one operator fewer than parts between them; no part is one constant.
-fn operators_and(parts: &[usize]) -> usize {
-    if parts.is_empty() {
-        1
-    } else {
-        parts.iter().sum::<usize>() + parts.len() - 1
-    }
-}
-
-fn selector_size(cell: Answer, outcome: Answer) -> usize {
-    let k = 3 - usize::from(cell.number());
-    match outcome {
-        Answer::Clash => 4 + 2 * k,
-        Answer::Bury => 1 + k + 1 + (k + 3) % 4 + 2,
-        _ => 1 + k + 1 + (k + 3) % 4 + 1,
-    }
-}
-
 #[test]
 fn the_number_of_nodes_is_the_sum_of_sizes() {
-    for table in random_tables(3, 400) {
+    for table in random_tables(3, 800) {
         assert_eq!(nodes_of(&table).len(), size(&table));
     }
 }
