@@ -62,26 +62,34 @@ module _ (f : List Answer → Answer) (n : ℕ) where
       go true q = rw q
       go false q = rw (le-ltb v v (omega arith))
 
+-- an array that evaluates is judged by its first failing step
+pub growth-steps :
+    (nodes : List ℕ) (n : ℕ) →
+    evaluateOf nodes (replicate n 0) .refusal .number ≡ 0 →
+    growthOf nodes n ≡ replyOf n (firstStep (answerAt nodes) n)
+unfolding growthOf
+growth-steps nodes n fine =
+    rw (eq-eqb (evaluateOf nodes (replicate n 0) .refusal .number) 0 fine)
+    (sym (replied (answerAt nodes) n (4 ^ n) (sym (weight-power n (evaluate-columns nodes n fine .1)))))
+
 -- the words' answers are the array's
 module _ (nodes : List ℕ) (n : ℕ) {p : Planes} (e : p ≡ planesOf nodes n) (h : p .refusal .number ≡ 0) where
   fine : evaluateOf nodes (replicate n 0) .refusal .number ≡ 0
   fine = planes-fine nodes n e h
 
-  agree : (s : List Answer) → length s ≡ n → inWords (p .bury) (p .keep) s ≡ answerAt nodes s
+  pub words-answer : (s : List Answer) → length s ≡ n → inWords (p .bury) (p .keep) s ≡ answerAt nodes s
   unfolding inWords
-  agree s l =
+  words-answer s l =
       let i : index s < 4 ^ n = rw l at (index-small s) in
       let z : situationAt n (index s) ≡ s = rw l at (situationAt-index s) in
       planes-lane nodes n e fine (index s) i ∙ ap (λ t. answerAt nodes t) z
 
   pub check-reply :
       {s : Step} {r : Growth} → s ≡ firstStep (inWords (p .bury) (p .keep)) n → r ≡ replyOf n s → r ≡ growthOf nodes n
-  unfolding growthOf
   check-reply g q =
       q
-      ∙ ap (replyOf n) (g ∙ firstStep-same (inWords (p .bury) (p .keep)) (answerAt nodes) n agree)
-      ∙ (rw (eq-eqb (evaluateOf nodes (replicate n 0) .refusal .number) 0 fine)
-      (replied (answerAt nodes) n (4 ^ n) (sym (weight-power n (evaluate-columns nodes n fine .1)))))
+      ∙ ap (replyOf n) (g ∙ firstStep-same (inWords (p .bury) (p .keep)) (answerAt nodes) n words-answer)
+      ∙ sym (growth-steps nodes n fine)
 
 pub check-refused :
     (nodes : List ℕ) (n : ℕ) {p : Planes} {r : Growth} →

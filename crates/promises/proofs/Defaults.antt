@@ -26,7 +26,7 @@ use Rattle.accepting.proofs.SharedSituations.{some-situation}
 use Rattle.accepting.proofs.Saying.{says-none, says-matching}
 use Rattle.accepting.proofs.TableEncoding.{write-table, tableBytes-length, read-formed, read-consistent}
 use Rattle.accepting.proofs.DefaultRefusals.{late-tag, default-length, default-value, default-cut}
-use Rattle.selection.proofs.AddedRows.{added-is, added-has, added-rise}
+use Rattle.selection.proofs.AddedRows as added
 use Rattle.matching.proofs.SomeRow.{matched-none, none-matched}
 use Rattle.selection.proofs.Answering.{silent-is}
 use Rattle.selection.proofs.AllRows.{tableRows-say}
@@ -106,7 +106,7 @@ module _ (t : Table) (w : WellFormed t) where
       i < length (addedTo t) →
       (s : List Answer) × (length s ≡ t .columns) × Unmatched t s × (row (addedTo t) i ≡ ownRow (defaultOf t) s)
   added-only i l =
-      let own = added-is (defaultOf t) (t .columns) (t .rows) (w .few-columns) i l in
+      let own = added.added-is (defaultOf t) (t .columns) (t .rows) (w .few-columns) i l in
       let s : List Answer = situationAt (t .columns) (own .at) in
       (s, situationAt-length (t .columns) (own .at), matched-none (t .rows) s (own .free), own .same)
 
@@ -123,7 +123,7 @@ module _ (t : Table) (w : WellFormed t) where
         row (addedTo t) i ≡ ownRow (defaultOf t) s →
         row (addedTo t) j ≡ ownRow (defaultOf t) u →
         index s < index u
-    added-in-order = added-rise (defaultOf t) (t .columns) (t .rows) (w .few-columns) not-silent
+    added-in-order = added.added-rise (defaultOf t) (t .columns) (t .rows) (w .few-columns) not-silent
 
     pub added-once :
         (s : List Answer) →
@@ -134,15 +134,7 @@ module _ (t : Table) (w : WellFormed t) where
         × (row (addedTo t) i ≡ ownRow (defaultOf t) s)
         × ((j : ℕ) → j < length (addedTo t) → row (addedTo t) j ≡ ownRow (defaultOf t) s → j ≡ i)
     added-once s long none =
-        let a = added-has (defaultOf t) (t .columns) (t .rows) (w .few-columns) not-silent s long (none-matched (t .rows) s none) in (
-          a .0,
-          a .1,
-          a .2,
-          λ j l e.
-              let f : j < a .0 → ⊥ = λ m. let k = added-in-order j (a .0) m (a .1) s s e (a .2) in omega arith in
-              let g : a .0 < j → ⊥ = λ m. let k = added-in-order (a .0) j m l s s (a .2) e in omega arith in
-              omega arith,
-        )
+        added.added-once (defaultOf t) (t .columns) (t .rows) (w .few-columns) not-silent s long (none-matched (t .rows) s none)
 
   -- With these rows written out, the rule of document 01 gives what the table says.
   pub all-rows-say :

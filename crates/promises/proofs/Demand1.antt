@@ -1,7 +1,7 @@
 -- Demand 1, refusals. The numbers that a caller gets, for every reply: with number 0 place and second number are 0; a refusal's number
 -- is a published one, never 15, its second number is 0 unless it is OVERLAP, and it returns nothing else. When OVERLAP, ROOM and the
 -- growth check's SITUATION are given, and where. What is refused is written nowhere.
-use Prim.Native.Nat.{ℕ, _^_, _<_}
+use Prim.Native.Nat.{ℕ, _+_, _*_, _^_, _<_}
 use mathlib.Core.Path.{refl, _≡_, ap, sym, _∙_}
 use mathlib.Core.Bool.{cond}
 use mathlib.Core.List.{List, [], _∷_}
@@ -9,7 +9,7 @@ use lib.Dec.{ltb, eqb}
 use lib.ListN.{length, replicate}
 use mathlib.Core.Logic.{_↔_, _⊎_}
 use borrow.Author.Tests.{eq-eqb, lt-ltb}
-use Rattle.refusals.specs.Meaning.{none, refused, ROOM, SITUATION, OVERLAP, after}
+use Rattle.refusals.specs.Meaning.{none, refused, ROWS, ROOM, SITUATION, OVERLAP, after}
 use Rattle.answers.specs.declared.Reply.{Reply}
 use Rattle.answers.specs.declared.operators.One.{One}
 use Rattle.answers.specs.declared.operators.Two.{Two}
@@ -48,6 +48,11 @@ use Rattle.running.proofs.Heights.{evaluate-heights, evaluate-alike}
 use Rattle.refusals.specs.declared.Refusal.{Refusal}
 use Rattle.growing.proofs.Verdicts as verdicts
 use Rattle.situations.proofs.Replies.{merged-refused}
+use Rattle.listing.specs.declared.Written.{Written}
+use Rattle.listing.specs.Meaning.{refuseWritten}
+use Rattle.untable.specs.Meaning.{untableOf}
+use Rattle.recovering.specs.Meaning.{answered}
+use Rattle.recovering.proofs.Replies.{untable-either}
 use Rattle.promises.specs.Meaning.{Accepts, Compiles, WeekReplied}
 use Rattle.promises.proofs.Demand2Tables.{accepted-exactly}
 
@@ -138,6 +143,18 @@ growth-replied nodes n =
     (either (Replied (λ (x : Growth). x .refusal) refuseGrowth) (ltb w (4 ^ n)) found (without none 1)
     (replied-success (λ (x : Growth). x .refusal) refuseGrowth found refl)
     (replied-success (λ (x : Growth). x .refusal) refuseGrowth (without none 1) refl))
+
+-- Giving a table back.
+pub untable-replied : (nodes : List ℕ) (n room : ℕ) → Replied (λ (x : Written). x .refusal) refuseWritten (untableOf nodes n room)
+untable-replied nodes n room =
+    let refuses = replied-refuse (λ (x : Written). x .refusal) refuseWritten (λ r. refl) in
+    untable-either nodes n room (Replied (λ (x : Written). x .refusal) refuseWritten)
+    (λ h.
+    refuses (evaluateOf nodes (replicate n 0) .refusal)
+    (replied-numbers (λ (x : Reply). x .refusal) refuseReply (evaluateOf nodes (replicate n 0)) (evaluateOf-answers nodes (replicate n 0))))
+    (λ h l. refuses _ (numbers-refused ROWS (answered (answerAt nodes) n) tt))
+    (λ h l m. refuses _ (numbers-refused ROOM (4 + answered (answerAt nodes) n * (n + 4)) tt))
+    (λ h l m. replied-success (λ (x : Written). x .refusal) refuseWritten _ refl)
 
 -- Bytes are refused by OVERLAP exactly when they are the encoding of a table in which some situation is matched by two rows
 -- with different outcomes ..

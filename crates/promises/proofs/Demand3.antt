@@ -94,15 +94,15 @@ module _ (nodes : List ℕ) (n : ℕ) (fine : evaluateOf nodes (replicate n 0) .
 
 -- The same of a table that compiles, by the nodes that are written.
 module _ (bytes lent : List ℕ) (accepted : Compiles bytes lent) where
-  -- at every situation of the table's columns the nodes written answer what the table says
-  nodes-say : (s : List Answer) → length s ≡ tableOf bytes .columns → answerAt (nodesWritten bytes lent) s ≡ says (tableOf bytes) s
+  -- At every situation of the table's columns the nodes written answer what the table says.
+  pub nodes-say : (s : List Answer) → length s ≡ tableOf bytes .columns → answerAt (nodesWritten bytes lent) s ≡ says (tableOf bytes) s
   unfolding Compiles nodesWritten
   nodes-say s l =
       let read = accepted-read bytes (length lent) accepted in
       rw (accepted-writes-nodes bytes lent accepted .0)
       (ap (λ (x : Reply). x .answer) (tree-run (tableOf bytes) (read-formed bytes read) (read-consistent bytes read) s l))
 
-  nodes-evaluate : evaluateOf (nodesWritten bytes lent) (replicate (tableOf bytes .columns) 0) .refusal .number ≡ 0
+  pub nodes-evaluate : evaluateOf (nodesWritten bytes lent) (replicate (tableOf bytes .columns) 0) .refusal .number ≡ 0
   unfolding Compiles nodesWritten
   nodes-evaluate =
       let read = accepted-read bytes (length lent) accepted in

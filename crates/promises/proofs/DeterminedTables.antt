@@ -29,6 +29,9 @@ use Rattle.planes.proofs.fill as planes-fill
 use Rattle.steps.proofs.step_from as steps-step-from
 use Rattle.seeking.proofs.first_step as seeking-first-step
 use Rattle.growth.proofs.check_growth as growth-check-growth
+use Rattle.listing.proofs.refuse as listing-refuse
+use Rattle.listing.proofs.list as listing-list
+use Rattle.untable.proofs.untable as untable-untable
 use Rattle.text.proofs.put_bytes as text-put-bytes
 use Rattle.text.proofs.put_number as text-put-number
 use Rattle.text.proofs.put_line as text-put-line
@@ -38,6 +41,7 @@ use Rattle.lines.proofs.put_growth as lines-put-growth
 use Rattle.judging.proofs.judge as judging-judge
 use Rattle.reports.proofs.put_record as reports-put-record
 use Rattle.reports.proofs.put_batch as reports-put-batch
+use Rattle.decimals.proofs.number_in as decimals-number-in
 use Rattle.input.proofs.move_front as input-move-front
 use Rattle.face.proofs.answer_face as face-answer
 use Rattle.face.proofs.one as face-one
@@ -50,6 +54,7 @@ use Rattle.face.proofs.growth_face as face-growth
 use Rattle.face.proofs.noticed_face as face-noticed
 use Rattle.face.proofs.heard_face as face-heard
 use Rattle.face.proofs.week_face as face-week
+use Rattle.face.proofs.written_face as face-written
 
 pub rows-row-count-determined : Determined rows-row-count.Kinds.ps rows-row-count.Kinds.r rows-row-count.Reads.Post
 rows-row-count-determined = record { result = λ κs a x y s t p q. p ∙ sym q }
@@ -129,6 +134,19 @@ seeking-first-step-determined = record { result = λ κs a x y s t p q. p ∙ sy
 pub growth-check-growth-determined : Determined growth-check-growth.Kinds.ps growth-check-growth.Kinds.r growth-check-growth.Reads.Post
 growth-check-growth-determined = record { result = λ κs a x y s t p q. p ∙ sym q }
 
+pub listing-refuse-determined : Determined listing-refuse.Kinds.ps listing-refuse.Kinds.r listing-refuse.Reads.Post
+listing-refuse-determined = record { result = λ κs a x y s t p q. p ∙ sym q }
+
+pub listing-list-determined :
+    DeterminedLent listing-list.Kinds.ps listing-list.Kinds.r listing-list.Reads.Post (λ κs s. now (s .1 .1 .1 .0))
+listing-list-determined =
+    record { result = λ κs a x y s t p q. p .0 ∙ sym (q .0); lent = λ κs a x y s t p q. (rw (p .0 ∙ sym (q .0)) at (p .1)) ∙ sym (q .1) }
+
+pub untable-untable-determined :
+    DeterminedLent untable-untable.Kinds.ps untable-untable.Kinds.r untable-untable.Reads.Post (λ κs s. now (s .1 .1 .0))
+untable-untable-determined =
+    record { result = λ κs a x y s t p q. p .0 ∙ sym (q .0); lent = λ κs a x y s t p q. (rw (p .0 ∙ sym (q .0)) at (p .1)) ∙ sym (q .1) }
+
 pub text-put-bytes-determined : DeterminedLent text-put-bytes.Kinds.ps text-put-bytes.Kinds.r text-put-bytes.Reads.Post (λ κs s. now (s .0))
 text-put-bytes-determined = record { result = λ κs a x y s t p q. p .ends ∙ sym (q .ends); lent = λ κs a x y s t p q. p .holds ∙ sym (q .holds) }
 
@@ -193,6 +211,9 @@ pub reports-put-batch-determined :
 reports-put-batch-determined =
     record { result = λ κs a x y s t p q. p .ends ∙ sym (q .ends); lent = λ κs a x y s t p q. p .holds ∙ sym (q .holds) }
 
+pub decimals-number-in-determined : Determined decimals-number-in.Kinds.ps decimals-number-in.Kinds.r decimals-number-in.Reads.Post
+decimals-number-in-determined = record { result = λ κs a x y s t p q. p ∙ sym q }
+
 pub input-move-front-determined :
     DeterminedLent input-move-front.Kinds.ps input-move-front.Kinds.r input-move-front.Reads.Post (λ κs s. now (s .0))
 input-move-front-determined =
@@ -200,3 +221,6 @@ input-move-front-determined =
       result = λ κs a x y s t p q. p .all ∙ sym (q .all);
       lent = λ κs a x y s t p q. p .holds ∙ (rw (p .all ∙ sym (q .all)) (sym (q .holds)));
     }
+
+pub face-written-determined : Determined face-written.Kinds.ps face-written.Kinds.r face-written.Reads.Post
+face-written-determined = record { result = λ κs a x y s t p q. p ∙ sym q }

@@ -2,9 +2,9 @@
 -- came, of which the first 1,024 bytes are judged, letter by letter.
 use mathlib.Core.Path.{_≡_, refl, ap, _∙_}
 use mathlib.Core.List.{[], _∷_}
-use lib.ListN.{take}
+use lib.ListN.{take, replicate}
 use native.Mathlib.Omega.{arith}
-use Rattle.refusals.specs.Meaning.{firstRefusal, refused, ROOM}
+use Rattle.refusals.specs.Meaning.{firstRefusal, refused, ROWS, ROOM}
 use Rattle.fields.specs.Meaning.{firstAbove}
 use Rattle.answers.specs.Meaning.{number, fromNumber, turn, truthMeet, join, implication, replace}
 use Rattle.situations.specs.Meaning.{fault, situationAt}
@@ -23,7 +23,10 @@ use Rattle.growth.specs.Meaning.{growthOf}
 use Rattle.text.specs.Meaning.{decimalOnto, decimal, numberText, refusalLine}
 use Rattle.lines.specs.Meaning.{countLines, answersText, raisedText, growthLine}
 use Rattle.judging.specs.Meaning.{textOf}
-use Rattle.promises.specs.Meaning.{laptopText, emptyText, noRowsText, largeTable, largeText, nodesOf, keepAtKeep, buryAtSilent, noRows, clashAtAny, laptop, keepElseBury, keepElseBuryText, mostText}
+use Rattle.listing.specs.Meaning.{refuseWritten, listedRows, replyOf, listOf}
+use Rattle.listing.specs.Meaning as listing
+use Rattle.untable.specs.Meaning.{untableOf}
+use Rattle.promises.specs.Meaning.{lentBack, bytesBack, laptopBack, laptopText, emptyText, noRowsText, largeTable, largeText, nodesOf, keepAtKeep, buryAtSilent, noRows, clashAtAny, laptop, keepElseBury, keepElseBuryText, mostText}
 use Rattle.promises.proofs.Defaults.{worst-accepted, worst-needs}
 use Rattle.promises.proofs.Demand3Printed.{prints-room}
 
@@ -77,3 +80,16 @@ pub most-judged : textOf (take 1024 (tableBytes worst)) ≡ mostText
 unfolding decimalOnto decimal numberText refusalLine
 most-judged =
     prints-room (tableBytes worst) worst-accepted (rw worst-needs (omega arith)) ∙ ap (λ n. refusalLine (refused ROOM n)) worst-needs
+
+-- Document 02: tables given back. From the nodes of the laptop table one of 15 rows; from the constant keep one of four rows at one
+-- column, and none at four columns, where 256 rows are needed; from the constant silent one without rows, behind which the lent bytes
+-- stay.
+pub backs :
+    (bytesBack (nodesOf laptop) 2 (replicate 94 0) ≡ laptopBack)
+    × (untableOf (nodesOf laptop) 2 93 ≡ refuseWritten (refused ROOM 94))
+    × (bytesBack (2 ∷ []) 1 (replicate 24 0)
+    ≡ 1 ∷ 0 ∷ 1 ∷ 1 ∷ 2 ∷ 0 ∷ 2 ∷ 0 ∷ 2 ∷ 2 ∷ 0 ∷ 2 ∷ 1 ∷ 2 ∷ 2 ∷ 0 ∷ 2 ∷ 2 ∷ 2 ∷ 2 ∷ 0 ∷ 2 ∷ 3 ∷ 2 ∷ [])
+    × (untableOf (2 ∷ []) 4 644 ≡ refuseWritten (refused ROWS 256))
+    × (lentBack (0 ∷ []) 1 (9 ∷ 9 ∷ 9 ∷ 9 ∷ 9 ∷ []) ≡ 1 ∷ 0 ∷ 1 ∷ 1 ∷ 9 ∷ [])
+unfolding laptop nodesOf bytesBack lentBack untableOf listOf replyOf listing.writtenOf listedRows firstRefusal firstAbove fault situationAt situationsFrom rowCount rowBytes rowsOf rowFields climb act run evaluateOf turned selector selectors followed together rowNodes rowsLeft rowsNodes addedRows tableNodes
+backs = (refl, refl, refl, refl, refl)

@@ -21,6 +21,7 @@ use Rattle.carmuspeno.proofs.carm_read_notice as read-notice
 use Rattle.carmuspeno.proofs.carm_speak as speak
 use Rattle.carmuspeno.proofs.carm_speak_set as speak-set
 use Rattle.carmuspeno.proofs.carm_count_week as count-week
+use Rattle.carmuspeno.proofs.carm_untable as untable
 use Rattle.carmuspeno.proofs.carm_check_growth as check-growth
 use Rattle.carmuspeno.proofs.carm_compile as compile
 
@@ -149,3 +150,9 @@ carm-compile-determined = record { result = λ κs a x y s t p q. p .0 ∙ sym (
 
 pub carm-compile-asks-nothing : AsksNothing compile.Kinds.ps compile.Reads.Pre
 carm-compile-asks-nothing = record { met = λ κs a. tt }
+
+pub carm-untable-determined : DeterminedLent untable.Kinds.ps untable.Kinds.r untable.Reads.Post (λ κs s. now (s .1 .1 .0))
+carm-untable-determined = record { result = λ κs a x y s t p q. p .0 ∙ sym (q .0); lent = λ κs a x y s t p q. p .1 ∙ sym (q .1) }
+
+pub carm-untable-asks-nothing : AsksNothing untable.Kinds.ps untable.Reads.Pre
+carm-untable-asks-nothing = record { met = λ κs a. tt }

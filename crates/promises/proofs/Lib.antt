@@ -16,3 +16,6 @@ pub mod DeterminedTables
 pub mod DeterminedWords
 pub mod Face
 pub mod Examples
+pub mod TableBack
+pub mod TableBackReplies
+pub mod Arguments

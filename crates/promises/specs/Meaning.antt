@@ -23,6 +23,8 @@ use Rattle.tables.specs.Meaning.{Table, readOf, tableOf}
 use Rattle.formula.specs.Meaning.{addedRows, tableNodes}
 use Rattle.compiler.specs.Meaning.{compileOf, writtenOf}
 use Rattle.replying.specs.Meaning.{published}
+use Rattle.listing.specs.Meaning as listing
+use Rattle.untable.specs.Meaning.{tableBack, untableOf}
 
 -- "Prove that any two outcomes allowed by it are equal": the results of a function that lends out no memory to be written.
 -- `Post` is the function's own contract: its `ensures`, of the arguments, the result and the arguments at exit.
@@ -98,6 +100,17 @@ Compiles bytes lent = compileOf bytes (length lent) .refusal .number ≡ 0
 unfoldable pub nodesWritten : List ℕ → List ℕ → List ℕ
 nodesWritten bytes lent = take (compileOf bytes (length lent) .nodes) (writtenOf bytes lent)
 
+-- A call that gives a table of n columns back.
+unfoldable pub GivesBack : List ℕ → ℕ → List ℕ → Type 0
+GivesBack nodes n lent = untableOf nodes n (length lent) .refusal .number ≡ 0
+
+-- The lent bytes after the call, and the bytes of the table at their front.
+unfoldable pub lentBack : List ℕ → ℕ → List ℕ → List ℕ
+lentBack nodes n lent = listing.writtenOf (tableBack nodes n) (untableOf nodes n (length lent)) lent
+
+unfoldable pub bytesBack : List ℕ → ℕ → List ℕ → List ℕ
+bytesBack nodes n lent = take (untableOf nodes n (length lent) .length) (lentBack nodes n lent)
+
 -- The tables of the examples.
 -- The nodes of the table that bytes are, and their number.
 unfoldable pub nodesOf : List ℕ → List ℕ
@@ -122,6 +135,26 @@ clashAtAny = 1 ∷ 0 ∷ 1 ∷ 1 ∷ 2 ∷ 0 ∷ 2 ∷ 4 ∷ 3 ∷ []
 -- L: columns laptop and library
 unfoldable pub laptop : List ℕ
 laptop = 1 ∷ 0 ∷ 1 ∷ 2 ∷ 2 ∷ 0 ∷ 3 ∷ 1 ∷ 4 ∷ 1 ∷ 2 ∷ 0 ∷ 3 ∷ 2 ∷ 4 ∷ 2 ∷ 2 ∷ 0 ∷ 3 ∷ 3 ∷ 4 ∷ 3 ∷ 2 ∷ 0 ∷ 3 ∷ 0 ∷ 1 ∷ 1 ∷ 2 ∷ 0 ∷ 3 ∷ 0 ∷ 2 ∷ 2 ∷ 2 ∷ 0 ∷ 3 ∷ 0 ∷ 3 ∷ 3 ∷ []
+
+-- The table that its nodes give back: n=2, a row for every situation but silent everywhere.
+abbrev pub laptopBack : List ℕ
+laptopBack =
+    (1 ∷ 0 ∷ 1 ∷ 2 ∷ [])
+    ++ (2 ∷ 0 ∷ 3 ∷ 0 ∷ 1 ∷ 1 ∷ [])
+    ++ (2 ∷ 0 ∷ 3 ∷ 0 ∷ 2 ∷ 2 ∷ [])
+    ++ (2 ∷ 0 ∷ 3 ∷ 0 ∷ 3 ∷ 3 ∷ [])
+    ++ (2 ∷ 0 ∷ 3 ∷ 1 ∷ 0 ∷ 1 ∷ [])
+    ++ (2 ∷ 0 ∷ 3 ∷ 1 ∷ 1 ∷ 1 ∷ [])
+    ++ (2 ∷ 0 ∷ 3 ∷ 1 ∷ 2 ∷ 1 ∷ [])
+    ++ (2 ∷ 0 ∷ 3 ∷ 1 ∷ 3 ∷ 1 ∷ [])
+    ++ (2 ∷ 0 ∷ 3 ∷ 2 ∷ 0 ∷ 2 ∷ [])
+    ++ (2 ∷ 0 ∷ 3 ∷ 2 ∷ 1 ∷ 2 ∷ [])
+    ++ (2 ∷ 0 ∷ 3 ∷ 2 ∷ 2 ∷ 2 ∷ [])
+    ++ (2 ∷ 0 ∷ 3 ∷ 2 ∷ 3 ∷ 2 ∷ [])
+    ++ (2 ∷ 0 ∷ 3 ∷ 3 ∷ 0 ∷ 3 ∷ [])
+    ++ (2 ∷ 0 ∷ 3 ∷ 3 ∷ 1 ∷ 3 ∷ [])
+    ++ (2 ∷ 0 ∷ 3 ∷ 3 ∷ 2 ∷ 3 ∷ [])
+    ++ (2 ∷ 0 ∷ 3 ∷ 3 ∷ 3 ∷ 3 ∷ [])
 
 -- What document 01 prints for the laptop table, each line with its line feed: "columns 2", "rows 6", "nodes 65",
 -- "growth no 0 1 column 0 to 2".

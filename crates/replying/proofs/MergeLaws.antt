@@ -85,13 +85,13 @@ merged-lengths s t a b h =
     let j = merged-joined s t a h in
     columns-length s a (j .short) ∙ j .same ∙ sym (columns-length t b (let short = j .short in let same = j .same in omega arith))
 
--- the merger passes the check
+-- answers pass the check, so the merger does
 above-numbers : (m : List Answer) → firstAbove 3 (map number m) ≡ length m
 unfolding firstAbove
 above-numbers [] = refl
 above-numbers (a ∷ m) = rw (le-ltb 3 (number a) (number-small a)) (ap suc (above-numbers m))
 
-numbers-pass : (m : List Answer) → 1 ≤ length m → length m ≤ 6 → fault (map number m) ≡ none
+pub numbers-pass : (m : List Answer) → 1 ≤ length m → length m ≤ 6 → fault (map number m) ≡ none
 numbers-pass m some few =
     sym
     (fault-none (map number m) {i = length m} (rw (length-map m number) some) (rw (length-map m number) few) (sym (above-numbers m)) refl

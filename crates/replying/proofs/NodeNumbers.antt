@@ -69,6 +69,29 @@ module _ (P : ℕ → Type 0) (clear : P 0) (node : P NODE) (column : P COLUMN) 
   climb-each profile n Join height = either Clear (profile .joins) (climbDown 1 height) (stop NODE) (down-each 1 height) node
   climb-each profile n Foreign height = node
 
+  -- so are the nodes of an array, or by END
+  module _ (end : P END) where
+    abbrev Told : Refusal → Type 0
+    Told r = P (r .number)
+
+    pub heights-each : (profile : Profile) (n place height : ℕ) (nodes : List ℕ) → P (heights profile n place height nodes .number)
+    unfolding heights
+    heights-each profile n place height [] = either Told (eqb height 1) none (refused END place) clear end
+    heights-each profile n place height (b ∷ nodes) =
+        let c = climb profile n (nodeOf b) height in
+        either Told (eqb (c .fault) 0) (heights profile n (suc place) (c .height) nodes) (refused (c .fault) place)
+        (heights-each profile n (suc place) (c .height) nodes)
+        (climb-each profile n (nodeOf b) height)
+
+    -- and an evaluation, or by SITUATION
+    pub evaluate-each : P SITUATION → (nodes s : List ℕ) → P (evaluateOf nodes s .refusal .number)
+    unfolding fault
+    evaluate-each situation nodes s =
+        rw (evaluate-heights nodes s)
+        (either Told (eqb (fault s .number) 0) (heights full (length s) 0 0 nodes) (fault s) (heights-each full (length s) 0 0 nodes)
+        (either Told (outside (length s)) (refused SITUATION (length s)) _ situation
+        (either Told (ltb (firstAbove 3 s) (length s)) (refused SITUATION (firstAbove 3 s)) none situation clear)))
+
 abbrev Named : ℕ → Type 0
 Named k = (k ≡ 0 → ⊥) → T (document01 k)
 
@@ -105,17 +128,16 @@ evaluateOf-answers nodes s =
     answers-after (fault s) (run full (answersOf s) 0 [] nodes) (fault-numbers s) (run-answers full (answersOf s) 0 [] nodes)
 
 -- nodes are refused by no number above END
-abbrev Low : Refusal → Type 0
-Low r = r .number ≤ 13
+heights-low : (profile : Profile) (n place height : ℕ) (nodes : List ℕ) → heights profile n place height nodes .number ≤ 13
+heights-low =
+    heights-each (λ (k : ℕ). k ≤ 13) (omega arith) (omega arith) (omega arith) (omega arith) (omega arith) (omega arith)
 
-heights-low : (profile : Profile) (n place height : ℕ) (nodes : List ℕ) → Low (heights profile n place height nodes)
-unfolding heights
-heights-low profile n place height [] = either Low (eqb height 1) none (refused END place) (omega arith) (omega arith)
-heights-low profile n place height (b ∷ nodes) =
-    let c = climb profile n (nodeOf b) height in
-    either Low (eqb (c .fault) 0) (heights profile n (suc place) (c .height) nodes) (refused (c .fault) place)
-    (heights-low profile n (suc place) (c .height) nodes)
-    (climb-each (λ (k : ℕ). k ≤ 13) (omega arith) (omega arith) (omega arith) (omega arith) (omega arith) profile n (nodeOf b) height)
+-- nor is an evaluation by a number below NODE
+pub evaluate-high :
+    (nodes s : List ℕ) → (evaluateOf nodes s .refusal .number ≡ 0 → ⊥) → NODE ≤ evaluateOf nodes s .refusal .number
+evaluate-high =
+    evaluate-each (λ (k : ℕ). (k ≡ 0 → ⊥) → NODE ≤ k) (λ e. absurd (e refl)) (λ e. omega arith) (λ e. omega arith) (λ e. omega arith)
+    (λ e. omega arith) (λ e. omega arith) (λ e. omega arith)
 
 -- so the growth check's SITUATION is that of its number of columns
 module _ (nodes : List ℕ) (n : ℕ) where

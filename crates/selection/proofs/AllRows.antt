@@ -21,7 +21,8 @@ use Rattle.tables.specs.Meaning.{Table, WellFormed, Consistent, rowsSay, says}
 use Rattle.accepting.proofs.Saying.{says-none, says-either, says-matching}
 use Rattle.formula.specs.Meaning.{isSilent, addedRows, tableRows}
 use Rattle.formula.proofs.Added.{each-row, addedRows-wide}
-use Rattle.selection.proofs.AddedRows.{own-matches, own-only, added-is, added-has}
+use Rattle.selection.proofs.OwnRows.{own-matches, own-only}
+use Rattle.selection.proofs.AddedRows.{added-is, added-once}
 use Rattle.matching.proofs.SomeRow.{matched-none, none-matched}
 use Rattle.selection.proofs.Answering.{silent-is, Wide, Agree}
 
@@ -69,7 +70,7 @@ module _ (t : Table) (w : WellFormed t) where
           go : (b : Bool) → isSilent default ≡ b → default ≡ Silent
           go true e = silent-is default (eqb-true (number default) 0 e)
           go false e =
-              let a = added-has default (t .columns) (t .rows) (w .few-columns) e s long (none-matched (t .rows) s none) in
+              let a = added-once default (t .columns) (t .rows) (w .few-columns) e s long (none-matched (t .rows) s none) in
               absurd
               (f (length (t .rows) + a .0) (let l = a .1 in omega (arith, length-append (t .rows) added))
               (rw (getD-append-add (t .rows) added (a .0) _, a .2) (own-matches s)))

@@ -1,4 +1,5 @@
 pub mod Picking
+pub mod OwnRows
 pub mod AddedRows
 pub mod Answering
 pub mod AllRows

@@ -1,0 +1,5 @@
+pub mod Listed
+pub mod OnlyList
+pub mod Evaluated
+pub mod Replies
+pub mod AlikeArrays
