@@ -16,8 +16,10 @@ ghost use Rattle.weeks.specs.Meaning.{weekOf};
 ghost use Rattle.compiler.specs.Meaning.{compileOf, writtenOf};
 ghost use Rattle.nodes.specs.Meaning.{evaluateOf};
 ghost use Rattle.growth.specs.Meaning.{growthOf};
+ghost use Rattle.listing.specs.Meaning as listing;
+ghost use Rattle.untable.specs.Meaning.{tableBack, untableOf};
 ghost use Rattle.face.specs.Meaning.{answerFace, containedFace, compiledFace, situationBehind, mergedFace, growthFace, noticedFace};
-ghost use Rattle.face.specs.Meaning.{heardFace, weekFace};
+ghost use Rattle.face.specs.Meaning.{heardFace, weekFace, writtenFace};
 use answers::operators::One;
 use answers::operators::Two;
 pub use face::CarmAnswer;
@@ -28,6 +30,7 @@ pub use face::CarmMerged;
 pub use face::CarmNoticed;
 pub use face::CarmSituation;
 pub use face::CarmWeek;
+pub use face::CarmWritten;
 
 #[no_mangle]
 pub extern "C" fn carm_negate(p: u8) -> CarmAnswer
@@ -182,4 +185,15 @@ pub extern "C" fn carm_count_week(batch: &[u8], voice: &[u8]) -> CarmWeek
     ensures { λ r. ⌜ r ≡ weekFace (weekOf (now (batch .entry)) (now (voice .entry))) ⌝ }
 {
     face::week_face(weeks::count_week(batch, voice))
+}
+
+// The table of what the nodes answer at the situations of so many columns.
+#[no_mangle]
+pub extern "C" fn carm_untable(nodes: &[u8], columns: u64, table: &mut [u8]) -> CarmWritten
+    ensures reply { λ r. ⌜ r ≡ writtenFace (untableOf (now (nodes .entry)) columns (length (now (table .entry)))) ⌝ }
+    ensures written { λ r. ⌜ now (table .exit)
+        ≡ listing.writtenOf (tableBack (now (nodes .entry)) columns) (untableOf (now (nodes .entry)) columns (length (now (table .entry))))
+        (now (table .entry)) ⌝ }
+{
+    face::written_face(untable::untable(nodes, columns as usize, table))
 }

@@ -8,6 +8,7 @@ use Rattle.situations.specs.declared.Merged.{Merged}
 use Rattle.notices.specs.declared.Noticed.{Noticed}
 use Rattle.compiler.specs.declared.Compiled.{Compiled}
 use Rattle.growth.specs.declared.Growth.{Growth}
+use Rattle.listing.specs.declared.Written.{Written}
 use Rattle.voices.specs.declared.Heard.{Heard}
 use Rattle.weeks.specs.declared.Week.{Week}
 use Rattle.face.specs.declared.CarmAnswer.{CarmAnswer}
@@ -18,6 +19,7 @@ use Rattle.face.specs.declared.CarmGrowth.{CarmGrowth}
 use Rattle.face.specs.declared.CarmNoticed.{CarmNoticed}
 use Rattle.face.specs.declared.CarmHeard.{CarmHeard}
 use Rattle.face.specs.declared.CarmWeek.{CarmWeek}
+use Rattle.face.specs.declared.CarmWritten.{CarmWritten}
 
 -- "Every reply starts with the three numbers of document 01: number (0 is success), place, second."
 abbrev pub answerFace : Reply → CarmAnswer
@@ -104,3 +106,8 @@ weekFace w =
       refused = w .counts .refused;
       «by_number» = w .counts .numbers;
     }
+
+-- "length is the number of bytes written at the front of the lent buffer", 0 in a refusal.
+abbrev pub writtenFace : Written → CarmWritten
+writtenFace r =
+    record { number = r .refusal .number; place = r .refusal .place; second = r .refusal .second; length = r .length }

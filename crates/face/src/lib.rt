@@ -6,12 +6,13 @@
 ghost use mathlib.Core.Path.{_≡_};
 ghost use Rattle.operands.specs.Meaning.{oneOf, twoOf};
 ghost use Rattle.face.specs.Meaning.{answerFace, containedFace, compiledFace, situationFace, situationBehind};
-ghost use Rattle.face.specs.Meaning.{mergedFace, growthFace, noticedFace, heardFace, weekFace};
+ghost use Rattle.face.specs.Meaning.{mergedFace, growthFace, noticedFace, heardFace, weekFace, writtenFace};
 use answers::Reply;
 use answers::operators::One;
 use answers::operators::Two;
 use compiler::Compiled;
 use growth::Growth;
+use listing::Written;
 use notices::Noticed;
 use operands::Related;
 use situations::Merged;
@@ -93,6 +94,15 @@ pub struct CarmWeek {
     pub clash: u64,
     pub refused: u64,
     pub by_number: [u64; 32],
+}
+
+// How many bytes stand at the front of the lent buffer.
+#[repr(C)]
+pub struct CarmWritten {
+    pub number: u64,
+    pub place: u64,
+    pub second: u64,
+    pub length: u64,
 }
 
 pub fn answer_face(reply: Reply) -> CarmAnswer
@@ -233,5 +243,16 @@ pub fn week_face(week: Week) -> CarmWeek
         clash: counts.clash,
         refused: counts.refused,
         by_number,
+    }
+}
+
+pub fn written_face(written: Written) -> CarmWritten
+    ensures { λ r. ⌜ r ≡ writtenFace written ⌝ }
+{
+    CarmWritten {
+        number: written.refusal.number as u64,
+        place: written.refusal.place as u64,
+        second: written.refusal.second as u64,
+        length: written.length as u64,
     }
 }

@@ -5,7 +5,7 @@ use mathlib.Core.Bool.{Bool, true, false}
 use mathlib.Core.List.{List, [], _∷_, _++_}
 use lib.Dec.{ltb}
 use lib.ListN.{length, take, getD, set, length-append}
-use lib.Seq.{sets, length-sets, set-out, take-suc, take-all}
+use lib.Seq.{sets, length-sets, length-take-le, set-out, take-suc, take-all}
 use borrow.Author.Tests.{ltb-true, ltb-false}
 use native.Mathlib.Nat.{add-zero}
 use native.Mathlib.Numerals.{add-one}
@@ -41,6 +41,13 @@ printed-then {b} {c} {d} {xs} {ys} {at} {m} {n} v w =
         let f = v .ends in
         let same : m ≡ at + length xs = omega arith in
         ap (λ i. sets c i ys) same
+
+-- the part of the buffer up to the next place
+pub printed-part : {b c xs : List ℕ} {at r : ℕ} → Printed b at xs c r → r ≡ length (take r c)
+printed-part {b} {c} {xs} {at} {r} v =
+    let long : length c ≡ length b = ap length (v .holds) ∙ length-sets b at xs in
+    let e = v .ends in
+    sym (length-take-le r c (omega arith))
 
 -- one byte
 pub printed-byte : (b : List ℕ) (at x : ℕ) → at < length b → Printed b at (x ∷ []) (set b at x) (at + 1)

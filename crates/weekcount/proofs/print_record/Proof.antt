@@ -1,5 +1,5 @@
 use borrow.Author.Needs.{needs}
-use Rattle.weekcount.proofs.Parts.{printed-part}
+use Rattle.text.proofs.Printing.{printed-part}
 use Rattle.weekcount.proofs.print_record.Statement.{statement}
 use Rattle.weekcount.proofs.print_record.Tie as tie
 
