@@ -13,7 +13,8 @@
 
 enum { NOTICES = 64 };
 
-static uint8_t table[1024], nodes[CARM_NODES_MAX], notice[32 * 9], voice[200], batch[NOTICES * (3 + sizeof notice)];
+static uint8_t table[1024], back[CARM_BACK_MAX], nodes[CARM_NODES_MAX], notice[32 * 9], voice[200];
+static uint8_t batch[NOTICES * (3 + sizeof notice)];
 static size_t table_len, nodes_len, notice_len, voice_len, batch_len;
 
 /* a reply printed, but not on the stack that is measured */
@@ -87,6 +88,20 @@ static void growing(void)
         uint8_t row[7] = { 4, 4, 4, 4, 4, 4, 2 };
         row[column] = 3;
         add_row(row);
+    }
+}
+
+/* 64 rows of one situation each, outcome clash, chosen for the most nodes: a cell takes the more the lower it is, so all situations
+ * whose cells add up to 2 or less and the first 36 of those with 3, in base-4 order */
+static void largest_given_back(void)
+{
+    int threes = 0;
+    start_table(6);
+    for (int situation = 0; situation < 4096; situation++) {
+        uint8_t row[7] = { 0, 0, 0, 0, 0, 0, 3 };
+        int sum = 0;
+        for (int column = 0; column < 6; column++) sum += row[column] = situation >> 2 * (5 - column) & 3;
+        if (sum < 3 || (sum == 3 && threes++ < 36)) add_row(row);
     }
 }
 
@@ -167,6 +182,7 @@ static void week_of_whens(void)
 static void make_laptop_nodes(void) { compiled(laptop); }
 static void make_largest_nodes(void) { compiled(largest); }
 static void make_growing_nodes(void) { compiled(growing); }
+static void make_largest_back_nodes(void) { compiled(largest_given_back); }
 
 static void print_growth(carm_growth r)
 {
@@ -199,6 +215,16 @@ static void growth(long repetitions, uint64_t columns)
 
 static void growth_two(long repetitions) { growth(repetitions, 2); }
 static void growth_six(long repetitions) { growth(repetitions, 6); }
+
+static void untable(long repetitions, uint64_t columns)
+{
+    carm_written r = { 0 };
+    while (repetitions--) r = carm_untable(nodes, nodes_len, columns, back, sizeof back);
+    SAY("%" PRIu64 " %" PRIu64 " %" PRIu64 " %d\n", r.number, r.place, r.length, back[r.length - 2]);
+}
+
+static void untable_two(long repetitions) { untable(repetitions, 2); }
+static void untable_six(long repetitions) { untable(repetitions, 6); }
 
 static void do_notice(long repetitions)
 {
@@ -254,6 +280,8 @@ static const struct {
     { "growth-laptop", "check_growth", "L: no", 100, make_laptop_nodes, growth_two },
     { "growth-growing", "check_growth", "six columns: yes, all steps", 2, make_growing_nodes, growth_six },
     { "growth-largest", "check_growth", "largest table: no", 1, make_largest_nodes, growth_six },
+    { "untable-laptop", "untable", "L: 15 rows", 100, make_laptop_nodes, untable_two },
+    { "untable-largest", "untable", "largest table that is given back, 3,911 nodes, 64 rows", 1, make_largest_back_nodes, untable_six },
     { "notice-full", "read_notice", "32 facts", 500, full_notice, do_notice },
     { "speak-whens", "speak", "16 levels of when, 32 facts", 200, nested_whens, do_speak },
     { "speak-absent-whens", "speak", "the same, every compared fact absent", 200, absent_whens, do_speak },

@@ -3,8 +3,8 @@
  *
  * An answer's two bits say "bury is said" and "keep is said": contained-in is subset, meet is and, join is or.
  *
- * GROWTH_BY_PLANES makes the growth check keep 64 situations to a word; without it, it evaluates once per situation.
- * NODE_BY_NODE beside it makes it do each node in all words before the next one; without it, it goes word by word.
+ * GROWTH_BY_PLANES makes the growth check and the table back keep 64 situations to a word; without it, they evaluate once per
+ * situation. NODE_BY_NODE beside it makes them do each node in all words before the next one; without it, they go word by word.
  * EVALUATE_FASTER makes the evaluator the fastest one in C that we know (it takes labels as values, as gcc and clang have
  * them); without it, it is a switch over an array.
  * LOOK_UP_BY_HALVES makes voices find a fact by halves; without it, they go through the facts one by one. */
@@ -366,7 +366,7 @@ carm_merged carm_merge(carm_situation first, carm_situation second)
     return (carm_merged){ 0, 0, 0, first };
 }
 
-/* ---- growth ---- */
+/* ---- growth, and tables given back ---- */
 
 static carm_growth growth_refused(uint64_t number, uint64_t place)
 {
@@ -383,23 +383,57 @@ static carm_growth fails(unsigned situation, unsigned columns, unsigned column, 
 
 static const carm_growth grows = { 0, 0, 0, 1, { 0, { 0 } }, 0, 0 };
 
+/* a table of so many rows to be written: its length, or why it is refused */
+static carm_written back_fits(unsigned rows, unsigned columns, size_t room)
+{
+    size_t needed = 4 + (size_t)rows * (columns + 4);
+    if (rows > MOST_ROWS) return (carm_written){ ROWS, rows, 0, 0 };
+    if (needed > room) return (carm_written){ ROOM, needed, 0, 0 };
+    return (carm_written){ 0, 0, 0, needed };
+}
+
+static inline uint8_t *put_columns(uint8_t *to, unsigned columns)
+{
+    const uint8_t head[] = { 1, 0, 1, (uint8_t)columns };
+    memcpy(to, head, sizeof head);
+    return to + sizeof head;
+}
+
+static inline uint8_t *put_row(uint8_t *to, unsigned situation, unsigned columns, unsigned outcome)
+{
+    *to++ = 2;
+    *to++ = 0;
+    *to++ = (uint8_t)(columns + 1);
+    for (unsigned i = columns; i-- > 0;) *to++ = situation >> 2 * i & 3;
+    *to++ = (uint8_t)outcome;
+    return to;
+}
+
 /* the steps from an answer: two from silent, one from bury and from keep, none from clash */
 static const struct { unsigned count, to[2]; } steps[4] = { { 2, { 1, 2 } }, { 1, { 3 } }, { 1, { 3 } }, { 0, { 0 } } };
 
 #ifndef GROWTH_BY_PLANES
 
+/* the answers of all situations, or a refusal */
+static carm_answer fill(const uint8_t *nodes, size_t nodes_len, unsigned n, uint8_t *answers)
+{
+    carm_answer reply = answered(0);
+    for (unsigned s = 0; s < 1u << 2 * n && !reply.number; s++) {
+        uint8_t situation[6];
+        for (unsigned i = 0; i < n; i++) situation[i] = s >> 2 * (n - 1 - i) & 3;
+        reply = run(nodes, nodes_len, situation, n);
+        answers[s] = (uint8_t)reply.answer;
+    }
+    return reply;
+}
+
 carm_growth carm_check_growth(const uint8_t *nodes, size_t nodes_len, uint64_t columns)
 {
     if (columns < 1 || columns > 6) return growth_refused(SITUATION, columns);
-    static uint8_t answers[MOST_SITUATIONS];
+    uint8_t answers[MOST_SITUATIONS];
     unsigned n = (unsigned)columns, count = 1u << 2 * n;
-    for (unsigned s = 0; s < count; s++) {
-        uint8_t situation[6];
-        for (unsigned i = 0; i < n; i++) situation[i] = s >> 2 * (n - 1 - i) & 3;
-        carm_answer reply = run(nodes, nodes_len, situation, n);
-        if (reply.number) return growth_refused(reply.number, reply.place);
-        answers[s] = (uint8_t)reply.answer;
-    }
+    carm_answer reply = fill(nodes, nodes_len, n, answers);
+    if (reply.number) return growth_refused(reply.number, reply.place);
     for (unsigned s = 0; s < count; s++)
         for (unsigned i = 0; i < n; i++) {
             unsigned shift = 2 * (n - 1 - i), digit = s >> shift & 3;
@@ -409,6 +443,22 @@ carm_growth carm_check_growth(const uint8_t *nodes, size_t nodes_len, uint64_t c
             }
         }
     return grows;
+}
+
+carm_written carm_untable(const uint8_t *nodes, size_t nodes_len, uint64_t columns, uint8_t *table, size_t table_len)
+{
+    if (columns < 1 || columns > 6) return (carm_written){ SITUATION, columns, 0, 0 };
+    uint8_t answers[MOST_SITUATIONS], *to = table;
+    unsigned n = (unsigned)columns, count = 1u << 2 * n, rows = 0;
+    carm_answer reply = fill(nodes, nodes_len, n, answers);
+    if (reply.number) return (carm_written){ reply.number, reply.place, 0, 0 };
+    for (unsigned s = 0; s < count; s++) rows += answers[s] != 0;
+    carm_written written = back_fits(rows, n, table_len);
+    if (written.number) return written;
+    to = put_columns(to, n);
+    for (unsigned s = 0; s < count; s++)
+        if (answers[s]) to = put_row(to, s, n, answers[s]);
+    return written;
 }
 
 #else
@@ -588,12 +638,17 @@ static carm_growth first_step(const plane *answers, unsigned s, unsigned n)
     return grows;
 }
 
+static inline unsigned words_of(unsigned n) { return n <= 3 ? 1 : 1u << 2 * (n - 3); }
+/* the bits of a word that are situations */
+static inline uint64_t used_of(unsigned n) { return n >= 3 ? ~0ull : (1ull << (1u << 2 * n)) - 1; }
+
+static const uint8_t silent[6];
+
 carm_growth carm_check_growth(const uint8_t *nodes, size_t nodes_len, uint64_t columns)
 {
     if (columns < 1 || columns > 6) return growth_refused(SITUATION, columns);
-    unsigned n = (unsigned)columns, words = n <= 3 ? 1 : 1u << 2 * (n - 3);
-    uint64_t used = n >= 3 ? ~0ull : (1ull << (1u << 2 * n)) - 1;
-    static const uint8_t silent[6];
+    unsigned n = (unsigned)columns, words = words_of(n);
+    uint64_t used = used_of(n);
     /* refusals do not depend on the answers */
     carm_answer reply = run(nodes, nodes_len, silent, n);
     if (reply.number) return growth_refused(reply.number, reply.place);
@@ -606,6 +661,28 @@ carm_growth carm_check_growth(const uint8_t *nodes, size_t nodes_len, uint64_t c
         if (fail) return first_step(answers, word * 64 + (unsigned)__builtin_ctzll(fail), n);
     }
     return grows;
+}
+
+carm_written carm_untable(const uint8_t *nodes, size_t nodes_len, uint64_t columns, uint8_t *table, size_t table_len)
+{
+    if (columns < 1 || columns > 6) return (carm_written){ SITUATION, columns, 0, 0 };
+    unsigned n = (unsigned)columns, words = words_of(n), rows = 0;
+    uint64_t used = used_of(n);
+    carm_answer reply = run(nodes, nodes_len, silent, n);
+    if (reply.number) return (carm_written){ reply.number, reply.place, 0, 0 };
+    plane answers[MOST_SITUATIONS / 64];
+    fill(nodes, nodes_len, n, words, answers);
+    for (unsigned word = 0; word < words; word++)
+        rows += (unsigned)__builtin_popcountll((answers[word].bury | answers[word].keep) & used);
+    carm_written written = back_fits(rows, n, table_len);
+    if (written.number) return written;
+    uint8_t *to = put_columns(table, n);
+    for (unsigned word = 0; word < words; word++)
+        for (uint64_t left = (answers[word].bury | answers[word].keep) & used; left; left &= left - 1) {
+            unsigned s = word * 64 + (unsigned)__builtin_ctzll(left);
+            to = put_row(to, s, n, answer_at(answers, s));
+        }
+    return written;
 }
 
 #endif

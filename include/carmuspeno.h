@@ -1,4 +1,4 @@
-/* Carmuspeno: four answers, tables compiled to nodes, notices, voices, weekly counts, and the growth check.
+/* Carmuspeno: four answers, tables compiled to nodes and given back, notices, voices, weekly counts, and the growth check.
  *
  * Link with libcarmuspeno.a (x86-64, System V calling convention; its code uses SSE registers and the red zone, and calls
  * memcpy and memset). No function allocates, blocks, keeps a pointer after it returns, or has state of its own, so threads may
@@ -32,6 +32,9 @@ enum { CARM_NEITHER = 0, CARM_YES = 1, CARM_NO = 2 };
 /* Room that is enough for the nodes of every lawful table. Where no table has a default other than silent, 4,223 bytes are. */
 #define CARM_NODES_MAX 200771
 
+/* Room that is enough for every table that carm_untable can write: 4 bytes and 64 rows of 10. */
+#define CARM_BACK_MAX 644
+
 /* Refusals, and what `place` is. Numbers 15 and 22 to 27 are unused. */
 enum {
     CARM_SHORT = 1,      /* a field is cut short; its offset */
@@ -39,9 +42,9 @@ enum {
     CARM_TAG = 3,        /* a field of another tag, or a default that is not directly behind the columns; its offset */
     CARM_LEN = 4,        /* a field of another length; its offset */
     CARM_VALUE = 5,      /* a byte out of range; its offset in a table, its index among an operator's operands */
-    CARM_ROWS = 6,       /* a 65th row; its offset */
+    CARM_ROWS = 6,       /* a 65th row; its offset. Of a table to be written: how many rows it needs */
     CARM_OVERLAP = 7,    /* two rows disagree; the later one, and `second` the earlier one, counted from 0 */
-    CARM_ROOM = 8,       /* the lent buffer is too small; the number of nodes needed */
+    CARM_ROOM = 8,       /* the lent buffer is too small; the number of nodes, or bytes of a table, needed */
     CARM_NODE = 9,       /* a byte that is no node; its index */
     CARM_COLUMN = 10,    /* a column that the situation does not have; the node's index */
     CARM_UNDER = 11,     /* too few operands; the node's index */
@@ -87,6 +90,9 @@ typedef struct { uint64_t number, place, second, set, answer; } carm_heard;
  * is that of a field of the batch, they are the counts of the notices before that field. */
 typedef struct { uint64_t number, place, second, silent, bury, keep, clash, refused, by_number[32]; } carm_week;
 
+/* How many bytes were written to the front of the lent buffer. */
+typedef struct { uint64_t number, place, second, length; } carm_written;
+
 /* The operators. An operand above 3 is VALUE. */
 carm_answer carm_negate(uint8_t p);
 carm_answer carm_turn(uint8_t p);
@@ -120,6 +126,12 @@ carm_merged carm_merge(carm_situation first, carm_situation second);
 
 /* Whether the array's answer only grows as the situation grows. */
 carm_growth carm_check_growth(const uint8_t *nodes, size_t nodes_len, uint64_t columns);
+
+/* Writes a table that says what the array answers to the front of the lent buffer; the bytes behind it stay. It has one row for
+ * every situation of so many columns with an answer other than silent, in base-4 order, column 0 the highest digit; no cell is
+ * any, and there is no default. A column count outside 1 to 6 is SITUATION, with the count; then come the refusals of
+ * carm_evaluate, then ROWS where more than 64 rows are needed (never up to three columns), then ROOM. */
+carm_written carm_untable(const uint8_t *nodes, size_t nodes_len, uint64_t columns, uint8_t *table, size_t table_len);
 
 carm_noticed carm_read_notice(const uint8_t *notice, size_t notice_len);
 

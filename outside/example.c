@@ -1,4 +1,5 @@
-/* A small use of the C face: compile a table, ask what it answers, see whether it grows, let a voice speak, count a week. */
+/* A small use of the C face: compile a table, ask what it answers, see whether it grows, get a table back from its nodes, let a voice
+ * speak, count a week. */
 #include <inttypes.h>
 #include <stdio.h>
 
@@ -40,6 +41,11 @@ int main(void)
             printf(" %s", words[growth.situation.answers[column]]);
         printf(" with column %" PRIu64 " raised to %s\n", growth.column, words[growth.answer]);
     }
+
+    /* a table from the nodes alone: a row for each situation that they answer */
+    uint8_t back[CARM_BACK_MAX];
+    carm_written written = carm_untable(nodes, made.nodes, made.columns, back, sizeof back);
+    printf("given back: %" PRIu64 " bytes, %" PRIu64 " rows\n", written.length, (written.length - 4) / (made.columns + 4));
 
     /* keep, when fact 7 is not 1; an old device's notice has no fact 7 */
     const uint8_t voice[] = { 24, 40, 43, 0, 7, 0, 0, 0, 1, 2 };

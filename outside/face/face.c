@@ -45,19 +45,25 @@ static unsigned digit(char c)
     return 0;
 }
 
-/* the bytes of a word; those of WORDxN are repeated N times */
+/* the bytes of a word; those of WORDxN are repeated N times, those of WORD+WORD stand one behind the other */
 static argument next_bytes(void)
 {
-    const char *word = next_word();
+    char *word = next_word(), *end;
     argument a = { NULL, NULL, 0 };
     if (strcmp(word, "-") == 0) return a;
-    size_t once = strcspn(word, "x") / 2;
-    a.length = word[2 * once] ? once * strtoull(word + 2 * once + 1, NULL, 10) : once;
-    a.bytes = malloc(a.length);
+    for (;; word = end + 1) {
+        size_t once = strcspn(word, "x+") / 2, times = 1, before = a.length;
+        end = word + 2 * once;
+        if (*end == 'x') times = strtoull(end + 1, &end, 10);
+        a.length += once * times;
+        a.bytes = realloc(a.bytes, a.length);
+        if (!a.bytes) fail("no memory", line_now);
+        for (size_t i = 0; i < once * times; i++)
+            a.bytes[before + i] = (uint8_t)(digit(word[i % once * 2]) * 16 + digit(word[i % once * 2 + 1]));
+        if (*end != '+') break;
+    }
     a.copy = malloc(a.length);
-    if (!a.bytes || !a.copy) fail("no memory", line_now);
-    for (size_t i = 0; i < a.length; i++)
-        a.bytes[i] = (uint8_t)(digit(word[i % once * 2]) * 16 + digit(word[i % once * 2 + 1]));
+    if (!a.copy) fail("no memory", line_now);
     memcpy(a.copy, a.bytes, a.length);
     return a;
 }
@@ -98,23 +104,54 @@ static void print_answer(carm_answer r)
     printf(" %" PRIu64 "\n", r.answer);
 }
 
+/* a buffer to be lent, and a marked strip behind it */
+typedef struct {
+    uint8_t *bytes; /* NULL where there is none */
+    uint8_t *block;
+    size_t room;
+} lent;
+
+static lent next_lent(void)
+{
+    lent l = { NULL, NULL, (size_t)next_number() };
+    l.block = malloc(l.room + STRIP);
+    if (!l.block) fail("no memory", line_now);
+    memset(l.block, LENT, l.room);
+    memset(l.block + l.room, STRIP_MARK, STRIP);
+    if (l.room) l.bytes = l.block;
+    return l;
+}
+
+/* the number that stands for all its bytes */
+static unsigned long sum_of(lent l)
+{
+    unsigned long sum = 7;
+    for (size_t i = 0; i < l.room; i++) sum = (sum * 31 + l.block[i]) % 1000003;
+    for (size_t i = l.room; i < l.room + STRIP; i++)
+        if (l.block[i] != STRIP_MARK) fail("written past the lent buffer", line_now);
+    free(l.block);
+    return sum;
+}
+
 static void compile(void)
 {
     argument table = next_bytes();
-    size_t room = (size_t)next_number();
-    uint8_t *block = malloc(room + STRIP);
-    if (!block) fail("no memory", line_now);
-    memset(block, LENT, room);
-    memset(block + room, STRIP_MARK, STRIP);
-    carm_compiled r = carm_compile(table.bytes, table.length, room ? block : NULL, room);
-    unsigned long sum = 7;
-    for (size_t i = 0; i < room; i++) sum = (sum * 31 + block[i]) % 1000003;
-    for (size_t i = room; i < room + STRIP; i++)
-        if (block[i] != STRIP_MARK) fail("written past the lent buffer", line_now);
-    free(block);
+    lent nodes = next_lent();
+    carm_compiled r = carm_compile(table.bytes, table.length, nodes.bytes, nodes.room);
     done(table);
     print_three(r.number, r.place, r.second);
-    printf(" %" PRIu64 " %" PRIu64 " %" PRIu64 " %lu\n", r.columns, r.rows, r.nodes, sum);
+    printf(" %" PRIu64 " %" PRIu64 " %" PRIu64 " %lu\n", r.columns, r.rows, r.nodes, sum_of(nodes));
+}
+
+static void untable(void)
+{
+    argument nodes = next_bytes();
+    uint64_t columns = next_number();
+    lent table = next_lent();
+    carm_written r = carm_untable(nodes.bytes, nodes.length, columns, table.bytes, table.room);
+    done(nodes);
+    print_three(r.number, r.place, r.second);
+    printf(" %" PRIu64 " %lu\n", r.length, sum_of(table));
 }
 
 static void evaluate(void)
@@ -186,7 +223,7 @@ static void count_week(void)
 }
 
 static const struct { const char *name; void (*call)(void); } calls[] = {
-    { "compile", compile }, { "evaluate", evaluate }, { "merge", merge },         { "growth", growth },
+    { "compile", compile }, { "evaluate", evaluate }, { "merge", merge },         { "growth", growth },         { "untable", untable },
     { "notice", notice },   { "speak", speak },       { "speak_set", speak_set }, { "count_week", count_week },
 };
 

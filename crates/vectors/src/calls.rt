@@ -10,7 +10,7 @@ use crate::reading::situation;
 use crate::reading::word;
 use crate::writing;
 
-// The most bytes that an operand has, and the most that `compile` lends.
+// The most bytes that an operand has, and the most that are lent.
 const MOST: usize = 4300;
 
 // An operator with one operand. It and the next one answer whether the name is one of theirs.
@@ -124,6 +124,24 @@ fn compile(operands: &[u8]) {
     compile_into(&mut nodes[..room], &table[..n]);
 }
 
+fn untable_into(table: &mut [u8], nodes: &[u8], columns: u64) {
+    let reply = carmuspeno::carm_untable(nodes, columns, table);
+    writing::three(reply.number, reply.place, reply.second);
+    writing::next(reply.length);
+    writing::next(sum(table));
+    writing::text(b"\n");
+}
+
+fn untable(operands: &[u8]) {
+    let mut nodes = [0u8; MOST];
+    let mut table = [170u8; MOST];
+    let n = bytes(word(operands), &mut nodes);
+    let after = rest(operands);
+    let columns = number(word(after));
+    let room = front(word(rest(after)), &table);
+    untable_into(&mut table[..room], &nodes[..n], columns);
+}
+
 fn merge(operands: &[u8]) {
     let first = situation(operands);
     let second = situation(rest(rest(operands)));
@@ -218,6 +236,9 @@ pub fn call(line: &[u8]) {
     }
     if same(name, b"growth") {
         return growth(operands);
+    }
+    if same(name, b"untable") {
+        return untable(operands);
     }
     if same(name, b"notice") {
         return notice(operands);

@@ -2,8 +2,8 @@
 // operands with a space between; the program writes a line for each: the three numbers of the reply, then its results.
 //
 // Numbers are decimal. Bytes are two lower-case hex digits each, and `-` is none of them. A situation by value is its
-// length and its six bytes. `compile` is told how many bytes to lend, all of them 170, and its line ends in a sum over the
-// lent bytes after the call. A line that calls nothing of this is answered by `?`.
+// length and its six bytes. `compile` and `untable` are told how many bytes to lend, all of them 170, and their lines end in a sum
+// over the lent bytes after the call. A line that calls nothing of this is answered by `?`.
 mod calls;
 mod reading;
 mod writing;

@@ -7,6 +7,7 @@ use crate::nodes;
 use crate::notices;
 use crate::refusals::Refusal;
 use crate::situations::Situation;
+use crate::untable::untable;
 use crate::voices;
 use crate::weeks::{self, Week};
 
@@ -17,10 +18,14 @@ pub fn hex(bytes: &[u8]) -> String {
     bytes.iter().map(|byte| format!("{byte:02x}")).collect()
 }
 
-/// The bytes of a word. Those of `WORDxN` are repeated N times: batches that are too long for a line are written so.
+/// The bytes of a word. Those of `WORDxN` are repeated N times and those of `WORD+WORD` stand one behind the other: batches and
+/// arrays that are too long for a line are written so.
 pub fn unhex(word: &str) -> Vec<u8> {
     if word == "-" {
         return Vec::new();
+    }
+    if let Some((first, second)) = word.split_once('+') {
+        return [unhex(first), unhex(second)].concat();
     }
     if let Some((repeated, times)) = word.split_once('x') {
         return unhex(repeated).repeat(number(times));
@@ -84,6 +89,7 @@ pub fn reply(call: &str) -> String {
         ["speak", notice, voice] => answer_line(voices::speak(&unhex(notice), &unhex(voice))),
         ["speak_set", notice, voice] => heard_line(voices::speak_set(&unhex(notice), &unhex(voice))),
         ["count_week", batch, voice] => week_line(&weeks::count(&unhex(batch), &unhex(voice))),
+        ["untable", nodes, columns, room] => untable_line(&unhex(nodes), number(columns), number(room)),
         [operator, p] => operator_line(operator, [number(p)]),
         [operator, p, q] => operator_line(operator, [number(p), number(q)]),
         [operator, x, p, q] => operator_line(operator, [number(x), number(p), number(q)]),
@@ -122,6 +128,16 @@ fn compile_line(table: &[u8], room: usize) -> String {
     match reply {
         Ok(compiled) => line(NO_REFUSAL, &format!("{} {} {} {sum}", compiled.columns, compiled.rows, compiled.nodes)),
         Err(refusal) => line(refusal, &format!("0 0 0 {sum}")),
+    }
+}
+
+fn untable_line(nodes: &[u8], columns: u64, room: usize) -> String {
+    let mut lent = vec![LENT; room];
+    let reply = untable(nodes, columns, &mut lent);
+    let sum = sum(&lent);
+    match reply {
+        Ok(length) => line(NO_REFUSAL, &format!("{length} {sum}")),
+        Err(refusal) => line(refusal, &format!("0 {sum}")),
     }
 }
 

@@ -1,9 +1,9 @@
 //! The growth check: does the array's answer only grow as the situation grows?
 
 use crate::answers::{contained, Answer, ALL};
-use crate::nodes::run;
+use crate::nodes;
 use crate::refusals::Refusal;
-use crate::situations::{columns, from_index, index};
+use crate::situations::{all, columns, index};
 
 /// A step that fails: in this situation, raising this column to this answer loses something.
 #[derive(Clone, PartialEq, Eq, Debug)]
@@ -16,8 +16,8 @@ pub struct Step {
 /// None for yes, the first failing step for no.
 pub fn check(nodes: &[u8], number_of_columns: u64) -> Result<Option<Step>, Refusal> {
     let n = columns(number_of_columns)?;
-    let situations: Vec<Vec<Answer>> = (0..4usize.pow(n as u32)).map(|number| from_index(number, n)).collect();
-    let answers = situations.iter().map(|situation| run(nodes, situation)).collect::<Result<Vec<_>, _>>()?;
+    let situations = all(n);
+    let answers = nodes::answers(nodes, &situations)?;
     Ok(situations.iter().find_map(|situation| first_failing(situation, &answers)))
 }
 

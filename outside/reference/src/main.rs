@@ -3,19 +3,22 @@
 //! reference reply                     the replies to the calls on standard input
 //! reference tablecheck                what the program tablecheck prints for this standard input
 //! reference weekcount BATCH VOICE..   what the program weekcount prints for these files
+//! reference tableback COLUMNS         what the program tableback writes for this standard input
 //! reference batch N [SEED]            a batch of N notices of 32 facts each, the values random
 
 use reference::random::Random;
-use reference::{calls, listed, listed_defaults, random, tablecheck, valid, weekcount};
+use reference::untable::{untable, LONGEST_TABLE_BACK};
+use reference::{calls, listed, listed_back, listed_defaults, random, tablecheck, valid, weekcount};
 use std::fs;
 use std::io::{self, BufRead, BufWriter, Read, Write};
 use std::process::ExitCode;
 
 /// The stored calls: those that are named, then this many random ones, then this many random weeks; behind them those that are
-/// named of tables with a default, then this many random ones.
+/// named of tables with a default, then this many random ones; and so for tables that are given back.
 const STORED: usize = 6000;
 const STORED_WEEKS: usize = 500;
 const STORED_DEFAULTS: usize = 1000;
+const STORED_BACK: usize = 600;
 const STORED_SEED: u64 = 1;
 
 fn stored_calls() -> impl Iterator<Item = String> {
@@ -24,14 +27,16 @@ fn stored_calls() -> impl Iterator<Item = String> {
         (0..wanted).map(move |_| draw(&mut random))
     };
     let before_defaults = listed::calls().into_iter().chain(drawn(STORED, random::call)).chain(drawn(STORED_WEEKS, random::week));
-    before_defaults.chain(listed_defaults::calls()).chain(drawn(STORED_DEFAULTS, random::defaulted))
+    let before_back = before_defaults.chain(listed_defaults::calls()).chain(drawn(STORED_DEFAULTS, random::defaulted));
+    before_back.chain(listed_back::calls()).chain(drawn(STORED_BACK, random::back))
 }
 
-/// One in ten is a week, two in ten are about a table with a default.
+/// One in ten is a week, two in ten are about a table with a default, two in ten ask for a table back.
 fn random_calls(wanted: usize, seed: u64) -> impl Iterator<Item = String> {
     let mut random = Random::new(seed);
     (0..wanted).map(move |at| match at % 10 {
         9 => random::week(&mut random),
+        5 | 6 => random::back(&mut random),
         7 | 8 => random::defaulted(&mut random),
         _ => random::call(&mut random),
     })
@@ -49,6 +54,10 @@ fn main() -> ExitCode {
         ["reply"] => print(io::stdin().lock().lines().map(|line| calls::reply(&line.expect("a line of text")))),
         ["tablecheck"] => print_tablecheck(),
         ["weekcount", batch, ref voices @ ..] if !voices.is_empty() => print_weekcount(batch, voices),
+        ["tableback", columns] => match columns.parse() {
+            Ok(columns) => write_table(columns),
+            Err(_) => return usage(),
+        },
         ["batch", wanted, ref seed @ ..] if seed.len() <= 1 => match (wanted.parse(), seed.first().unwrap_or(&"1").parse()) {
             (Ok(wanted), Ok(seed)) => write_batch(wanted, seed),
             _ => return usage(),
@@ -65,7 +74,9 @@ fn main() -> ExitCode {
 }
 
 fn usage() -> ExitCode {
-    eprintln!("reference calls | random N SEED | reply | tablecheck | weekcount BATCH VOICE.. | batch N [SEED]");
+    eprintln!(
+        "reference calls | random N SEED | reply | tablecheck | weekcount BATCH VOICE.. | tableback COLUMNS | batch N [SEED]"
+    );
     ExitCode::from(2)
 }
 
@@ -88,6 +99,17 @@ fn print_weekcount(batch: &str, voices: &[&str]) -> io::Result<()> {
     let named = |name: &&str| Ok((name.to_string(), fs::read(name)?));
     let voices = voices.iter().map(named).collect::<io::Result<Vec<_>>>()?;
     io::stdout().lock().write_all(weekcount::text(&batch, &voices).as_bytes())
+}
+
+/// A refusal is a line on standard error.
+fn write_table(columns: u64) -> io::Result<()> {
+    let mut nodes = Vec::new();
+    io::stdin().lock().read_to_end(&mut nodes)?;
+    let mut table = [0; LONGEST_TABLE_BACK];
+    match untable(&nodes, columns, &mut table) {
+        Ok(length) => io::stdout().lock().write_all(&table[..length]),
+        Err(refusal) => writeln!(io::stderr(), "refused {} {} {}", refusal.number, refusal.place, refusal.second),
+    }
 }
 
 fn write_batch(wanted: usize, seed: u64) -> io::Result<()> {

@@ -30,6 +30,11 @@ pub fn run(nodes: &[u8], situation: &[Answer]) -> Result<Answer, Refusal> {
     }
 }
 
+/// The answer in each of these situations.
+pub fn answers(nodes: &[u8], situations: &[Vec<Answer>]) -> Result<Vec<Answer>, Refusal> {
+    situations.iter().map(|situation| run(nodes, situation)).collect()
+}
+
 /// One node, or the number of its refusal.
 fn step(node: u8, situation: &[Answer], stack: &mut Vec<Answer>) -> Result<(), u64> {
     match node {

@@ -4,6 +4,7 @@ use crate::calls::hex;
 use crate::compile::nodes_of;
 use crate::notices::Fact;
 use crate::tables;
+use crate::untable::untable;
 use crate::valid;
 
 /// The generator xorshift64*.
@@ -317,6 +318,68 @@ fn growth(random: &mut Random, distance: Distance) -> String {
         disturb(random, &mut nodes, distance, IN_NODES);
     }
     format!("growth {} {asked}", hex(&nodes))
+}
+
+/// A call for a table back: of an array made by hand, of compiled tables with and without a default, or of any nodes; the room often
+/// just enough, or one byte too little.
+pub fn back(random: &mut Random) -> String {
+    let distance = random.pick(&[Distance::Valid, Distance::Valid, Distance::OneByte, Distance::Far]);
+    let columns = random.pick(&[1, 1, 2, 2, 2, 3, 3, 3, 3, 3, 4, 4, 5, 6]);
+    let mut nodes = match random.below(4) {
+        0 => {
+            let turns = random.below(9);
+            array(random, columns, turns)
+        }
+        1 => few_rows(random, columns),
+        2 => compiled_or_silent(&valid::table(random, columns)),
+        _ => compiled_or_silent(&valid::defaulted_table(random, columns)),
+    };
+    if distance == Distance::Far && random.one_in(6) {
+        let height = 14 + random.below(6);
+        nodes = valid::comb(random, columns, height);
+    }
+    let mut asked = columns as u64;
+    if distance != Distance::Valid && random.one_in(5) {
+        asked = match random.below(6) {
+            0 => random.next(),
+            1 => (1 << 32) + columns as u64,
+            _ => random.below(9) as u64,
+        };
+    } else {
+        disturb(random, &mut nodes, distance, IN_NODES);
+    }
+    let needed = untable(&nodes, asked, &mut [0; LONGEST]).unwrap_or_default();
+    let room = match random.below(6) {
+        0 => needed.saturating_sub(1),
+        1 | 2 => needed,
+        3 => needed + random.below(10),
+        4 => random.below(2 * needed + 2),
+        _ => random.below(700),
+    };
+    format!("untable {} {asked} {room}", hex(&nodes))
+}
+
+/// The nodes of some situations, none of them twice: up to 64 can be given back.
+fn few_rows(random: &mut Random, columns: usize) -> Vec<u8> {
+    let wanted = if columns > 3 && random.one_in(4) { 62 + random.below(4) } else { random.below(20) };
+    let mut rows: Vec<Vec<u8>> = Vec::new();
+    for _ in 0..wanted {
+        let cells = valid::situation(random, columns);
+        if rows.len() < 64 && rows.iter().all(|row| row[..columns] != cells) {
+            rows.push([cells, vec![1 + random.byte(3)]].concat());
+        }
+    }
+    compiled_or_silent(&valid::table_bytes(columns as u8, &rows))
+}
+
+/// The nodes of a table; the constant silent where they are too long for a call.
+fn compiled_or_silent(table: &[u8]) -> Vec<u8> {
+    let nodes = nodes_of(&tables::read(table).expect("a lawful table"));
+    if nodes.len() < LONGEST - 8 {
+        nodes
+    } else {
+        vec![0]
+    }
 }
 
 fn notice(random: &mut Random, distance: Distance) -> String {

@@ -57,6 +57,11 @@ pub fn from_index(index: usize, columns: usize) -> Vec<Answer> {
     (0..columns).map(|column| ALL[index / 4usize.pow((columns - 1 - column) as u32) % 4]).collect()
 }
 
+/// All situations of so many columns, in base-4 order.
+pub fn all(columns: usize) -> Vec<Vec<Answer>> {
+    (0..4usize.pow(columns as u32)).map(|number| from_index(number, columns)).collect()
+}
+
 /// A situation's base-4 number.
 pub fn index(situation: &[Answer]) -> usize {
     situation.iter().fold(0, |index, answer| index * 4 + usize::from(answer.number()))

@@ -2,7 +2,7 @@
 
 use crate::answers::{Answer, ALL};
 use crate::refusals::{refuse, Refusal, LEN, OVERLAP, ROWS, SHORT, START, TAG, VALUE};
-use crate::situations::from_index;
+use crate::situations::all;
 
 /// A cell is an answer, or none for any.
 #[derive(Clone, PartialEq, Eq, Debug)]
@@ -20,7 +20,7 @@ pub struct Table {
     pub rows: Vec<Row>,
 }
 
-const MOST_ROWS: usize = 64;
+pub const MOST_ROWS: usize = 64;
 
 /// The only offset at which a default may stand: directly after the columns field.
 const DEFAULT_AT: usize = 4;
@@ -148,8 +148,7 @@ impl Table {
         if self.default == Answer::Silent {
             return Vec::new();
         }
-        let all = (0..4usize.pow(self.columns as u32)).map(|number| from_index(number, self.columns));
-        let unmatched = all.filter(|situation| !self.rows.iter().any(|row| row.matches(situation)));
+        let unmatched = all(self.columns).into_iter().filter(|situation| !self.rows.iter().any(|row| row.matches(situation)));
         unmatched.map(|situation| Row { cells: situation.into_iter().map(Some).collect(), outcome: self.default }).collect()
     }
 }

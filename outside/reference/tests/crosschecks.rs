@@ -13,7 +13,7 @@ use reference::refusals::{Refusal, CODE, CUT, LEN, NEST, RISE, SHORT, TAG, TAIL,
 use reference::situations::{from_index, index};
 use reference::tables::{self, Table};
 use reference::weeks::{self, Week};
-use reference::{batches, growth, valid, voices, weekcount};
+use reference::{batches, growth, listed_back, valid, voices, weekcount};
 use sizes::size;
 use std::collections::BTreeSet;
 
@@ -278,7 +278,7 @@ fn every_count_is_among_the_named_calls() {
 #[test]
 fn every_refusal_is_among_the_named_calls() {
     let mut seen = BTreeSet::new();
-    for call in calls() {
+    for call in calls().into_iter().chain(listed_back::calls()) {
         let reply = reply(&call);
         let number: u64 = reply.split(' ').next().unwrap().parse().unwrap();
         seen.insert((call.split(' ').next().unwrap().to_string(), number));
@@ -288,6 +288,7 @@ fn every_refusal_is_among_the_named_calls() {
     assert_eq!(of("compile"), [0, 1, 2, 3, 4, 5, 6, 7, 8]);
     assert_eq!(of("evaluate"), [0, 9, 10, 11, 12, 13, 14]);
     assert_eq!(of("growth"), [0, 9, 10, 11, 12, 13, 14]);
+    assert_eq!(of("untable"), [0, 6, 8, 9, 10, 11, 12, 13, 14]);
     assert_eq!(of("merge"), [0, 14]);
     assert_eq!(of("notice"), [0, 1, 3, 4, 20, 21]);
     assert_eq!(of("speak"), [0, 1, 3, 4, 16, 17, 18, 19, 20, 21]);
