@@ -1,6 +1,9 @@
 // The four answers, both orders on them, and every operator of the document.
 //
 // They take answers and refuse nothing. The crate `operands` has the same for operands that are bytes.
+
+#![tactic(auto)]
+
 ghost use Rattle.std.specs.Prelude.{◌≡◌};
 ghost use Rattle.answers.specs.Meaning.{number, from_number, contained};
 
@@ -8,7 +11,7 @@ pub mod operators;
 
 use refusals::Refusal;
 
-#[derive(Drop)]
+#[derive(Clone, Copy)]
 pub enum Answer {
     Silent,
     Bury,
@@ -17,7 +20,7 @@ pub enum Answer {
 }
 
 // What a call that answers replies: silent in a refusal.
-#[derive(Drop)]
+#[derive(Clone, Copy)]
 pub struct Reply {
     pub refusal: Refusal,
     pub answer: Answer,

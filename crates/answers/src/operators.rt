@@ -5,7 +5,7 @@ ghost use Rattle.answers.specs.Meaning.{negate, turn, floor, ceiling, meet, join
 use crate::{Answer, from_number, number};
 
 // The operators with one operand.
-#[derive(Drop)]
+#[derive(Clone, Copy)]
 pub enum One {
     Negate,
     Turn,
@@ -14,7 +14,7 @@ pub enum One {
 }
 
 // The operators with two operands; Replace(x) replaces x in the first by the second.
-#[derive(Drop)]
+#[derive(Clone, Copy)]
 pub enum Two {
     Meet,
     Join,

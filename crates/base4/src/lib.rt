@@ -1,6 +1,9 @@
 // Base 4: a situation read as a number, column 0 its highest digit. Whoever goes through situations goes in this order.
 //
 // Each function takes any numbers and refuses nothing. Six columns are the most: what lies beyond is said where it matters.
+
+#![tactic(auto)]
+
 ghost use Rattle.std.specs.Prelude.{◌≡◌, take, get_or};
 ghost use Rattle.answers.specs.Meaning.{number};
 ghost use Rattle.answers.specs.declared.Answer.TheVariants.{Silent};

@@ -7,6 +7,9 @@
 //
 // Refused, in this order at each field: fewer than three bytes left, SHORT; another tag than 17, TAG; the 1,000,001st notice,
 // WEEK; a length above 288, LEN; a value past the end, SHORT. The place is the field's offset.
+
+#![tactic(auto)]
+
 ghost use Rattle.std.specs.Prelude.{◌≡◌};
 ghost use Rattle.batches.specs.Meaning.{fault, due, walk_of};
 
@@ -25,7 +28,7 @@ const LONGEST: usize = 288;
 pub const FIELD: usize = 291;
 
 // Why a walk stopped, if a field was refused; how many bytes the fields before it take; and how many notices may still come.
-#[derive(Drop)]
+#[derive(Clone, Copy)]
 pub struct Walked {
     pub refusal: Refusal,
     pub length: usize,

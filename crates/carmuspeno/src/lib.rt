@@ -4,6 +4,9 @@
 // cites the definition that the called function's contract cites. A slice is a pointer and a length, and the pointer
 // of an empty slice may be null. Nothing keeps a pointer after it returns.
 // It refuses nothing itself: number, place and second number are those of the function called.
+
+#![tactic(auto)]
+
 ghost use Rattle.std.specs.Prelude.{◌≡◌, length};
 ghost use Rattle.operands.specs.Meaning.{one_of, two_of, replace_of, contained_of};
 ghost use Rattle.answers.specs.declared.operators.One.TheVariants as one;

@@ -1,6 +1,9 @@
 // The codes of voices: what a byte asks for where a policy is wanted, and where a test is wanted.
 //
 // It refuses nothing: a byte that is no code of the kind wanted is Foreign, and the reader of voices refuses it.
+
+#![tactic(auto)]
+
 ghost use Rattle.std.specs.Prelude.{◌≡◌};
 ghost use Rattle.codes.specs.Meaning.{policy_kind, test_kind};
 
@@ -9,7 +12,7 @@ use answers::operators::{One, Two};
 use notices::Comparison;
 
 // What a code asks for, and what is made of it.
-#[derive(Drop)]
+#[derive(Clone, Copy)]
 pub enum PolicyKind {
     Constant(Answer),
     One(One),
@@ -18,7 +21,7 @@ pub enum PolicyKind {
     Foreign,
 }
 
-#[derive(Drop)]
+#[derive(Clone, Copy)]
 pub enum TestKind {
     Not,
     Joint(Joint),
@@ -29,7 +32,7 @@ pub enum TestKind {
 }
 
 // The tests made of two tests.
-#[derive(Drop)]
+#[derive(Clone, Copy)]
 pub enum Joint {
     And,
     Or,

@@ -3,13 +3,16 @@
 // It promises that a table is accepted exactly when it is read and its nodes, counted by the published formula, fit the
 // buffer; that the nodes then stand at the buffer's front and nothing else is written; and that a refused call writes nothing.
 // It refuses as reading does, then by ROOM (place: nodes needed).
+
+#![tactic(auto)]
+
 ghost use Rattle.std.specs.Prelude.{◌≡◌, length};
 ghost use Rattle.compiler.specs.Meaning.{refuse_compiled, reply_of, compile_of, written_of};
 
 use refusals::{ROOM, Refusal, none, refused};
 
 // What compiling gives: columns, rows read (not those that a default adds) and nodes written, all 0 in a refusal.
-#[derive(Drop)]
+#[derive(Clone, Copy)]
 pub struct Compiled {
     pub refusal: Refusal,
     pub columns: usize,

@@ -4,6 +4,9 @@
 // them: under the answer that the voice's column receives, or, where the notice or the voice is refused, under the number of that
 // refusal. Counts are a value: none is changed where it stands. A count that has reached the largest number stays there.
 // It refuses nothing: a refused voice is counted, not told.
+
+#![tactic(auto)]
+
 ghost use Rattle.std.specs.Prelude.{◌≡◌, [], ◌∷◌};
 ghost use Rattle.voices.specs.Meaning.{speak_of};
 ghost use Rattle.counts.specs.Meaning.{counts_of, more, plus};
@@ -17,7 +20,7 @@ pub const NUMBERS: usize = 32;
 const LARGEST: u64 = 18446744073709551615;
 
 // How many notices gave each answer; how many were refused; and how many of these with each number.
-#[derive(Drop)]
+#[derive(Clone, Copy)]
 pub struct Counts {
     pub silent: u64,
     pub bury: u64,

@@ -3,6 +3,9 @@
 // `number_in` reads any bytes. It promises to give a number exactly where there is at least one byte, all are digits, and the number
 // that they are fits in 64 bits; that number is then given. Zeros in front are taken. It refuses nothing: of other bytes it says
 // that they give no number.
+
+#![tactic(auto)]
+
 ghost use Rattle.std.specs.Prelude.{◌≡◌};
 ghost use Rattle.decimals.specs.Meaning.{none, number_in};
 
@@ -14,7 +17,7 @@ const NINE: u8 = 57;
 const LARGEST: usize = 18446744073709551615;
 
 // Whether a number is given, and which; 0 where none is.
-#[derive(Drop)]
+#[derive(Clone, Copy)]
 pub struct Number {
     pub given: bool,
     pub number: usize,

@@ -4,6 +4,9 @@
 // bytes the field takes there (none where the tag is not 3), what is wrong with it, and the answer, silent where there is none.
 // It refuses, where the tag is 3, in this order: SHORT for fewer than three bytes, LEN, SHORT for a value past the end, VALUE
 // (place: that byte). A default that stands elsewhere is no row, so the reading of rows refuses it by TAG.
+
+#![tactic(auto)]
+
 ghost use Rattle.std.specs.Prelude.{◌≡◌};
 ghost use Rattle.defaults.specs.Meaning.{default_answer, default_size, default_in, default_fault};
 

@@ -5,6 +5,9 @@
 // left to right: a byte that is no node (NODE), a column that the situation has not (COLUMN), too few operands (UNDER), a
 // push onto a full stack (DEEP), each at the node's index; last a stack that does not hold exactly one answer (END, at the
 // array's length). The faults of nodes and the heights are those of `nodes::climb`.
+
+#![tactic(auto)]
+
 ghost use Rattle.std.specs.Prelude.{◌≡◌, [], ◌+◌, ◌*◌, ◌/◌, ◌%◌, ◌<◌, length, get_or};
 ghost use Rattle.answers.specs.Meaning.{number, from_number, negate, refuse};
 ghost use Rattle.situations.specs.Meaning.{answers_of};

@@ -3,6 +3,9 @@
 // It promises that each function gives the numbers of the reply that it is handed, each 64 bits wide, and nothing else.
 // A situation goes both ways. What is turned is taken as it comes, lawful or not.
 // It refuses nothing itself: number, place and second number are those of the reply.
+
+#![tactic(auto)]
+
 ghost use Rattle.std.specs.Prelude.{◌≡◌};
 ghost use Rattle.operands.specs.Meaning.{one_of, two_of};
 ghost use Rattle.face.specs.Meaning.{answer_face, contained_face, compiled_face, situation_face, situation_behind};
@@ -20,7 +23,7 @@ use voices::Heard;
 use weeks::Week;
 
 #[repr(C)]
-#[derive(Drop)]
+#[derive(Clone, Copy)]
 pub struct CarmAnswer {
     pub number: u64,
     pub place: u64,
@@ -29,7 +32,7 @@ pub struct CarmAnswer {
 }
 
 #[repr(C)]
-#[derive(Drop)]
+#[derive(Clone, Copy)]
 pub struct CarmCompiled {
     pub number: u64,
     pub place: u64,
@@ -40,14 +43,14 @@ pub struct CarmCompiled {
 }
 
 #[repr(C)]
-#[derive(Drop)]
+#[derive(Clone, Copy)]
 pub struct CarmSituation {
     pub length: u64,
     pub answers: [u8; 6],
 }
 
 #[repr(C)]
-#[derive(Drop)]
+#[derive(Clone, Copy)]
 pub struct CarmMerged {
     pub number: u64,
     pub place: u64,
@@ -57,7 +60,7 @@ pub struct CarmMerged {
 
 // The verdict is 0 for neither (a refusal), 1 for yes, 2 for no.
 #[repr(C)]
-#[derive(Drop)]
+#[derive(Clone, Copy)]
 pub struct CarmGrowth {
     pub number: u64,
     pub place: u64,
@@ -69,7 +72,7 @@ pub struct CarmGrowth {
 }
 
 #[repr(C)]
-#[derive(Drop)]
+#[derive(Clone, Copy)]
 pub struct CarmNoticed {
     pub number: u64,
     pub place: u64,
@@ -79,7 +82,7 @@ pub struct CarmNoticed {
 
 // The set has bit a for each answer a that the voice may give; the answer is its meet.
 #[repr(C)]
-#[derive(Drop)]
+#[derive(Clone, Copy)]
 pub struct CarmHeard {
     pub number: u64,
     pub place: u64,
@@ -90,7 +93,7 @@ pub struct CarmHeard {
 
 // How many notices gave each answer, how many were refused, and at each index how many with that number.
 #[repr(C)]
-#[derive(Drop)]
+#[derive(Clone, Copy)]
 pub struct CarmWeek {
     pub number: u64,
     pub place: u64,
@@ -105,7 +108,7 @@ pub struct CarmWeek {
 
 // How many bytes stand at the front of the lent buffer.
 #[repr(C)]
-#[derive(Drop)]
+#[derive(Clone, Copy)]
 pub struct CarmWritten {
     pub number: u64,
     pub place: u64,

@@ -5,6 +5,9 @@
 // field: START for no bytes at all, SHORT for fewer than three, START for a tag other than 1, LEN, SHORT for a value past the end,
 // VALUE; at a row: SHORT, TAG for a tag other than 2, ROWS where no row may come, LEN, SHORT, VALUE (place: that byte). An offset
 // counts modulo 1,024 and a number of columns modulo 8, which is more than any table has.
+
+#![tactic(auto)]
+
 ghost use Rattle.std.specs.Prelude.{◌≡◌, ◌+◌, ◌%◌, ◌≤◌, length};
 ghost use Rattle.faults.specs.Meaning.{columns_fault, row_fault, value_fault};
 ghost use Rattle.faults.specs.Inside.{range_fault, length_fault};

@@ -3,6 +3,9 @@
 //
 // It promises of any bytes what its definitions say: a byte that is not there counts as 0.
 // It refuses nothing: which test comes first, and which number a refusal then has, is the reader's to say.
+
+#![tactic(auto)]
+
 ghost use Rattle.std.specs.Prelude.{◌≡◌, ◌<◌, get_or};
 ghost use Rattle.fields.specs.Meaning.{two, four, tag, size, short_header, short_value, first_above};
 

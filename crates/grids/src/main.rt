@@ -1,5 +1,8 @@
 // Prints the grids of the operators from the proved functions: for an operator of two operands a row for each p
 // and in it the answer at each q, for an operator of one operand one row. Answers stand as their numbers.
+
+#![tactic(auto)]
+
 use answers::operators::{One, Two};
 use answers::{Answer, operators};
 use libc::STDOUT_FILENO;

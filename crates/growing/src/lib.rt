@@ -1,1 +1,3 @@
 // Laws of the growth check: no failing step is the law over all mergers. No code stands here.
+
+#![tactic(auto)]

@@ -5,6 +5,9 @@
 // It refuses n outside 1 to 6 (SITUATION, place n), then as the evaluator does: NODE, COLUMN, UNDER, DEEP, END.
 //
 // The answers at all situations come from planes, and the first failing step in them from seeking: here stands the reply.
+
+#![tactic(auto)]
+
 ghost use Rattle.std.specs.Prelude.{◌≡◌};
 ghost use Rattle.growth.specs.Meaning.{without, growth_of};
 ghost use Rattle.growth.specs.Inside.{shown_of, reply_of};
@@ -19,7 +22,7 @@ pub const YES: u8 = 1;
 pub const NO: u8 = 2;
 
 // The situation has 0 from its length on. It is all 0, and so are column and answer, but for a no.
-#[derive(Drop)]
+#[derive(Clone, Copy)]
 pub struct Growth {
     pub refusal: Refusal,
     pub verdict: u8,

@@ -2,6 +2,9 @@
 //
 // It promises that the count lies within the buffer. Which bytes come is the system's to say. `move_front` makes room for more
 // behind bytes that are still wanted: exactly these then stand at the front. It refuses nothing.
+
+#![tactic(auto)]
+
 ghost use Rattle.std.specs.Prelude.{◌≡◌, ◌≤◌, min, length};
 ghost use Rattle.io.specs.Counts.{IsPrefixLen};
 ghost use Rattle.input.specs.Meaning.{Moved};
@@ -9,7 +12,7 @@ ghost use Rattle.input.specs.Meaning.{Moved};
 use libc::STDIN_FILENO;
 
 // How many bytes came, and whether a read failed behind them.
-#[derive(Drop)]
+#[derive(Clone, Copy)]
 pub struct Input {
     pub count: usize,
     pub failed: bool,

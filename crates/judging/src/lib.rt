@@ -3,6 +3,9 @@
 // It promises, for every input, exactly that text for its first 1,024 bytes, with 4,223 bytes of room for nodes: the lines of
 // columns, rows, nodes and growth, or the one line of a refusal. It returns the text's length and changes no byte behind it.
 // It refuses nothing, but a lent buffer below 256 bytes gets no text and the length 0: 256 are enough for every text.
+
+#![tactic(auto)]
+
 ghost use Rattle.std.specs.Prelude.{◌≡◌, cond, ◌++◌, ltb, length, take, drop};
 ghost use Rattle.text.specs.Meaning.{Printed};
 ghost use Rattle.judging.specs.Meaning.{text_of};

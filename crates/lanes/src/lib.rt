@@ -8,6 +8,9 @@
 // as it was.
 //
 // The loops have constant bounds, so that the back end lays them out in full and works on several words at a time.
+
+#![tactic(auto)]
+
 ghost use Rattle.std.specs.Prelude.{◌*◌};
 ghost use Rattle.answers.specs.Meaning.{negate, turn, meet, join};
 ghost use Rattle.lanes.specs.Meaning.{Placed, one, two};

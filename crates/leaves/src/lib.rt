@@ -4,6 +4,9 @@
 // after it. A comparison with an absent fact may be true or false; whether a fact is present is certain.
 //
 // Refused: a fact number or a value that is incomplete, CUT, its place the code.
+
+#![tactic(auto)]
+
 ghost use Rattle.std.specs.Prelude.{◌≡◌, ◌-◌, length, [], ◌∷◌};
 ghost use Rattle.notices.specs.Meaning.{facts_in, present};
 ghost use Rattle.truths.specs.Meaning.{truth_set};
@@ -21,7 +24,7 @@ const COMPARISON: usize = 7;
 const PRESENCE: usize = 3;
 
 // What a test may be with the offset after it, or why it is refused.
-#[derive(Drop)]
+#[derive(Clone, Copy)]
 pub enum Held {
     May(u8, usize),
     Refused(Refusal),

@@ -3,6 +3,9 @@
 // As in the crate `text`: each function writes from a place on and returns the place behind what it wrote; exactly this text then
 // stands there and no other byte has changed, but where the buffer ends first, the text is cut off there, and so is the place.
 // It takes any counts and any reply of the growth check, and refuses nothing.
+
+#![tactic(auto)]
+
 ghost use Rattle.std.specs.Prelude.{◌≡◌, ◌++◌, min, take};
 ghost use Rattle.text.specs.Meaning.{Printed, number_text};
 ghost use Rattle.lines.specs.Meaning.{count_lines, growth_no, answers_text, raised_text, growth_line};

@@ -9,6 +9,9 @@
 //
 // Each function that puts rows goes on from a place and returns the next one: a row is written where the buffer has room for it, and
 // counted in any case. So the walk over an empty buffer counts. Where nothing is left in a word, its end comes next.
+
+#![tactic(auto)]
+
 ghost use Rattle.std.specs.Prelude.{◌≡◌, ◌+◌, ◌≤◌, ◌<◌, length};
 ghost use Rattle.lent.specs.Inside.{Wrote};
 ghost use Rattle.situations.specs.Meaning.{weight, situation_at};
@@ -37,7 +40,7 @@ const MOST_ROWS: usize = 64;
 const WORD: usize = 64;
 
 // What writing a table gives: how many bytes stand at the buffer's front, 0 in a refusal.
-#[derive(Drop)]
+#[derive(Clone, Copy)]
 pub struct Written {
     pub refusal: Refusal,
     pub length: usize,

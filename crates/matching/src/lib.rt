@@ -3,6 +3,9 @@
 // It promises of any bytes what its definitions say: whether one of the rows that a part holds matches a situation. Silent rows
 // match like others. It refuses nothing: an answer above 3 counts as clash, a cell above 4 as any, and a situation that has fewer
 // answers than a row has cells is not matched.
+
+#![tactic(auto)]
+
 ghost use Rattle.std.specs.Prelude.{◌≡◌, map, ◌≤◌, length};
 ghost use Rattle.answers.specs.Meaning.{from_number};
 ghost use Rattle.situations.specs.Meaning.{answers_of};

@@ -4,6 +4,9 @@
 // array answers at a situation. It refuses nothing itself: `climb` says with which number a machine refuses a node. That
 // is NODE for a byte that is no node, COLUMN for a column that the situation has not, UNDER for too few operands, and
 // DEEP for a push onto a full stack; of a column's two, COLUMN comes first.
+
+#![tactic(auto)]
+
 ghost use Rattle.std.specs.Prelude.{◌≡◌, cond, ◌+◌, ◌-◌, ltb, drop};
 ghost use Rattle.nodes.specs.Meaning.{node_of, full, climb, turns, past};
 ghost use Rattle.nodes.specs.Inside.{taken, Fits};
@@ -12,7 +15,7 @@ use answers::Answer;
 use refusals::{COLUMN, DEEP, NODE, UNDER};
 
 // A node's byte, sorted.
-#[derive(Drop)]
+#[derive(Clone, Copy)]
 pub enum Node {
     Constant(Answer),
     Negate,
@@ -24,14 +27,14 @@ pub enum Node {
 }
 
 // What a machine allows: how many places its stack has, and whether it knows the join.
-#[derive(Drop)]
+#[derive(Clone, Copy)]
 pub struct Profile {
     pub places: usize,
     pub joins: bool,
 }
 
 // Where a node leads: the stack's height after it, or the number of a refusal, with height 0.
-#[derive(Drop)]
+#[derive(Clone, Copy)]
 pub struct Climbed {
     pub height: usize,
     pub fault: u8,

@@ -7,6 +7,9 @@
 // Refused, in this order at each field: fewer than three bytes left, SHORT; another tag than 16, TAG; a 33rd fact,
 // FACTS; another length than 6, LEN; a value past the end, SHORT; a number that does not pass the last one, RISE.
 // The place is the field's offset in the whole notice.
+
+#![tactic(auto)]
+
 ghost use Rattle.std.specs.Prelude.{◌≡◌, ◌+◌, ◌-◌, ◌≤◌, eqb, length};
 ghost use Rattle.fields.specs.Meaning.{two};
 ghost use Rattle.notices.specs.Meaning.{fault, facts_in, seen, compare, present, notice_of};
@@ -26,20 +29,20 @@ const SIZE: usize = 6;
 const FIELD: usize = 9;
 
 // How many facts a notice holds: 0 in a refusal.
-#[derive(Drop)]
+#[derive(Clone, Copy)]
 pub struct Noticed {
     pub refusal: Refusal,
     pub facts: usize,
 }
 
 // What a notice says of a fact.
-#[derive(Drop)]
+#[derive(Clone, Copy)]
 pub enum Seen {
     Value(u32),
     Absent,
 }
 
-#[derive(Drop)]
+#[derive(Clone, Copy)]
 pub enum Comparison {
     Equal,
     AtLeast,

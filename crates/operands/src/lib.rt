@@ -2,6 +2,9 @@
 //
 // It promises the operator's answer for operands that are answers.
 // It refuses the first operand above 3: VALUE, its place the operand's index (x, p, q for replace). The answer is then silent.
+
+#![tactic(auto)]
+
 ghost use Rattle.std.specs.Prelude.{◌≡◌};
 ghost use Rattle.operands.specs.Meaning.{operand_fault, operands_of, one_of, two_of, replace_of, contained_of};
 
@@ -10,7 +13,7 @@ use answers::{Answer, Reply, from_number, operators};
 use refusals::{Refusal, VALUE, none, refused};
 
 // Whether p is contained in q: false in a refusal.
-#[derive(Drop)]
+#[derive(Clone, Copy)]
 pub struct Related {
     pub refusal: Refusal,
     pub contained: bool,

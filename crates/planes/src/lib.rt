@@ -6,6 +6,9 @@
 //
 // Each node is run over sixteen words before the next one (see lanes and pushes); six columns take four passes over the
 // nodes. More words to a pass would be a larger stack.
+
+#![tactic(auto)]
+
 ghost use Rattle.std.specs.Prelude.{◌≡◌, ◌+◌, ◌*◌, ◌%◌, ◌≤◌, ◌<◌, length, replicate};
 ghost use Rattle.planes.specs.Meaning.{planes_of};
 ghost use Rattle.planes.specs.Inside.{Acting, Acted, Ran, Within, Stored, Filled, Passed, Answered};
@@ -14,7 +17,7 @@ use nodes::Node;
 use refusals::{END, Refusal, SITUATION};
 
 // Bit w % 64 of word w / 64 is the situation with number w: bury has the lower bit of the answer's number, keep the higher.
-#[derive(Drop)]
+#[derive(Clone, Copy)]
 pub struct Planes {
     pub refusal: Refusal,
     pub bury: [u64; 64],
@@ -22,7 +25,7 @@ pub struct Planes {
 }
 
 // How many words there are, how many of them a pass computes, and which lanes of each are situations.
-#[derive(Drop)]
+#[derive(Clone, Copy)]
 struct Extent {
     total: usize,
     count: usize,

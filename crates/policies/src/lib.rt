@@ -6,6 +6,9 @@
 //
 // Refused, in this order at each level: none left, NEST; no byte left, CUT; a byte that is no code of the kind wanted,
 // CODE; a fact number or a value that is incomplete, CUT, its place the code.
+
+#![tactic(auto)]
+
 ghost use Rattle.std.specs.Prelude.{◌≡◌};
 ghost use Rattle.notices.specs.Meaning.{facts_in};
 ghost use Rattle.trees.specs.Meaning.{policy_at, test_at};
@@ -17,7 +20,7 @@ use leaves::Held;
 use refusals::{CODE, CUT, NEST, Refusal, refused};
 
 // What a policy may say with the offset after it, or why it is refused.
-#[derive(Drop)]
+#[derive(Clone, Copy)]
 pub enum Told {
     May(u8, usize),
     Refused(Refusal),

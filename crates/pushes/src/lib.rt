@@ -6,6 +6,9 @@
 //
 // The situations go in passes of sixteen words, 1,024 situations each; six columns take four. The column is a digit of the
 // situation's number in base 4: the three lowest are the lane's, the next two the word's, the highest the pass's.
+
+#![tactic(auto)]
+
 ghost use Rattle.std.specs.Prelude.{◌≡◌, ◌+◌, ◌*◌, ◌%◌, ◌≤◌, ◌<◌, length, get_or};
 ghost use Rattle.words.specs.Meaning.{ones};
 ghost use Rattle.lanes.specs.Meaning.{Placed};
@@ -16,7 +19,7 @@ ghost use Rattle.pushes.specs.Inside.{Whole, low_bury, low_keep, Low, same, laid
 use answers::Answer;
 
 // Answers at 64 situations: a word of either bit.
-#[derive(Drop)]
+#[derive(Clone, Copy)]
 struct Pair {
     bury: u64,
     keep: u64,

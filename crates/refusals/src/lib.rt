@@ -1,6 +1,8 @@
 // The refusals: the numbers that a caller gets, and the three that every reply starts with.
 // It refuses nothing itself. Number 0 is success, 15 is unused, and 22 to 27 are not given yet.
 
+#![tactic(auto)]
+
 ghost use Rattle.std.specs.Prelude.{◌≡◌};
 ghost use Rattle.refusals.specs.Meaning.{none, refused};
 
@@ -47,7 +49,7 @@ pub const FACTS: u8 = 21;
 pub const WEEK: u8 = 28;
 
 // The number, its place (an offset or an index, unless said) and a second number, which only OVERLAP has.
-#[derive(Drop)]
+#[derive(Clone, Copy)]
 pub struct Refusal {
     pub number: u8,
     pub place: usize,

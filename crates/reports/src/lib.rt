@@ -3,6 +3,9 @@
 // As in the crate `text`: each function writes from a place on and returns the place behind what it wrote; exactly this text then
 // stands there and no other byte has changed, but where the buffer ends first, the text is cut off there, and so is the place.
 // It takes any name, any counts and any refusal, and refuses nothing. A record is at most 1,200 bytes longer than its name.
+
+#![tactic(auto)]
+
 ghost use Rattle.std.specs.Prelude.{◌≡◌, ◌++◌, take};
 ghost use Rattle.text.specs.Meaning.{Printed};
 ghost use Rattle.reports.specs.Meaning.{name_line, total_lines, number_line, number_lines, record_text, batch_line};

@@ -4,6 +4,9 @@
 // It promises of any bytes what its definitions say; a row that is not there has no bytes.
 // It refuses only by OVERLAP: two rows that one situation matches and whose outcomes differ (place: the later row, second: the
 // earlier one). The headers and the ranges of values are looked at where tables are read.
+
+#![tactic(auto)]
+
 ghost use Rattle.std.specs.Prelude.{◌≡◌, map};
 ghost use Rattle.rows.specs.Meaning.{row_count, row_bytes, cell_bytes, outcome_of, row_of, cell_of};
 ghost use Rattle.rows.specs.Meaning.{cells_share, overlap, disagree, first_overlap};

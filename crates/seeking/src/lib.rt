@@ -6,6 +6,9 @@
 //
 // A word without a failing step is passed over (`sifting`), and only from one with a failing step on are the situations tried
 // one by one.
+
+#![tactic(auto)]
+
 ghost use Rattle.std.specs.Prelude.{◌≡◌, ◌-◌, ◌^◌, ◌<◌};
 ghost use Rattle.situations.specs.Meaning.{weight};
 ghost use Rattle.steps.specs.Meaning.{first_from, situation_fails, step_from, first_step, in_words};

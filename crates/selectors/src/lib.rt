@@ -4,6 +4,9 @@
 // written if it has not, and that no other byte changes. The place behind the selector is returned in any case, so over an
 // empty buffer selectors are only counted. It refuses nothing: a place counts modulo 4,294,967,296 and a column modulo 8, which is
 // more than any table has; a cell or an outcome above 3 counts as clash.
+
+#![tactic(auto)]
+
 ghost use Rattle.std.specs.Prelude.{◌≡◌, ◌+◌, ◌-◌, ◌%◌, ◌≤◌, length};
 ghost use Rattle.lent.specs.Meaning.{WroteWhole};
 ghost use Rattle.lent.specs.Inside.{Wrote};

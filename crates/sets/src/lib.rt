@@ -4,6 +4,9 @@
 // It refuses nothing.
 //
 // The answers are gone through one by one, laid out in full, so that what is not in a set costs one test.
+
+#![tactic(auto)]
+
 ghost use Rattle.std.specs.Prelude.{◌≡◌, cond, [], ◌∷◌, map};
 ghost use Rattle.answers.specs.Meaning.{number, meet, apply_one, apply_two};
 ghost use Rattle.sets.specs.Meaning.{answer_set, answers_in, has, member, pairs, meet_of};

@@ -4,6 +4,9 @@
 // It promises that a merger is the join column by column, and that a refused merge hands back the first situation as it came.
 // It refuses by SITUATION: a length outside 1 to 6 (place: the length), else the first answer above 3 (place: its index).
 // A merge looks at its first operand so, then at its second, then at unequal lengths (place: the second's length).
+
+#![tactic(auto)]
+
 ghost use Rattle.std.specs.Prelude.{◌≡◌, ◌≤◌};
 ghost use Rattle.situations.specs.Meaning.{fault, fault_of, merge_bytes, merge_of};
 ghost use Rattle.situations.specs.Inside.{join_numbers};
@@ -11,13 +14,13 @@ ghost use Rattle.situations.specs.Inside.{join_numbers};
 use refusals::{Refusal, SITUATION};
 
 // A situation by value. Only the answers below the length count.
-#[derive(Drop)]
+#[derive(Clone, Copy)]
 pub struct Situation {
     pub length: usize,
     pub answers: [u8; 6],
 }
 
-#[derive(Drop)]
+#[derive(Clone, Copy)]
 pub struct Merged {
     pub refusal: Refusal,
     pub situation: Situation,

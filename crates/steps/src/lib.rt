@@ -4,6 +4,9 @@
 // The answers at all situations of n columns come in two blocks of 64 words, as planes has them: bit w % 64 of word w / 64 is
 // the situation with number w. It promises the first of the steps that fail from a situation: the lowest column, then the
 // lowest new answer. It refuses nothing: more than six columns have no step, and neither has a number of no situation.
+
+#![tactic(auto)]
+
 ghost use Rattle.std.specs.Prelude.{◌≡◌, ◌<◌};
 ghost use Rattle.planes.specs.Meaning.{lane};
 ghost use Rattle.situations.specs.Meaning.{situation_at};
@@ -14,7 +17,7 @@ use answers::Answer;
 
 // The number is the situation's in base 4. Where no step from it fails, the column is n and the answer 4. Where there is no
 // such situation, the number is 4^n, or 0 above six columns; column and answer are 0 then.
-#[derive(Drop)]
+#[derive(Clone, Copy)]
 pub struct Step {
     pub number: usize,
     pub column: usize,

@@ -3,6 +3,9 @@
 // The table goes to standard output. A refusal is told in one line on standard error, as tablecheck prints it, and nothing is written
 // to standard output; so is what cannot be done: no argument or one that is no number, an array that cannot be read or that is longer
 // than 266,240 bytes, a table that cannot be written.
+
+#![tactic(auto)]
+
 ghost use Rattle.std.specs.Prelude.{◌≡◌, length};
 
 use libc::{STDERR_FILENO, STDIN_FILENO, STDOUT_FILENO};

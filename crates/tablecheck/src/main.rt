@@ -1,5 +1,8 @@
 // Judges the table on standard input and prints the verdict: the first 1,024 bytes count. A read that fails is judged as
 // nothing, and told on standard error, and so is a verdict that cannot be written.
+
+#![tactic(auto)]
+
 use libc::{STDERR_FILENO, STDOUT_FILENO};
 
 fn main() {

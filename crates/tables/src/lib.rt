@@ -6,6 +6,9 @@
 // a first tag other than 1, TAG for a later one other than 2 (but for a default, tag 3, directly behind the columns), ROWS for a
 // 65th row, LEN, SHORT for a value past the end, VALUE for a byte out of range (place: that byte). After all fields: OVERLAP
 // (place: the later row, second: the earlier one).
+
+#![tactic(auto)]
+
 ghost use Rattle.std.specs.Prelude.{◌≡◌, ◌≤◌, drop};
 ghost use Rattle.faults.specs.Meaning.{columns_of};
 ghost use Rattle.defaults.specs.Meaning.{default_answer, default_in};
@@ -22,7 +25,7 @@ const MOST_ROWS: usize = 64;
 const COLUMNS_FIELD: usize = 4;
 
 // What reading gives: the number of columns and of rows, both 0 in a refusal.
-#[derive(Drop)]
+#[derive(Clone, Copy)]
 pub struct TableRead {
     pub refusal: Refusal,
     pub columns: usize,

@@ -3,6 +3,9 @@
 // Each function writes from a place on and returns the place behind what it wrote. It promises that exactly this text then
 // stands there and no other byte has changed; where the buffer ends first, the text is cut off there, and so is the place.
 // It refuses nothing.
+
+#![tactic(auto)]
+
 ghost use Rattle.std.specs.Prelude.{◌≡◌, [], ◌∷◌, ◌+◌, ◌<◌, min, length};
 ghost use Rattle.text.specs.Meaning.{Printed, number_text, line, refusal_line};
 ghost use Rattle.text.specs.Inside.{Spelled};

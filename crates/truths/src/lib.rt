@@ -2,6 +2,9 @@
 //
 // A set is a number of two bits: 1 where the test may be false, 2 where it may be true. Higher bits are not looked at and
 // never set; a set of answers is one of the crate `sets`. It refuses nothing.
+
+#![tactic(auto)]
+
 ghost use Rattle.std.specs.Prelude.{◌≡◌, ◌%◌, false, true, not, cond, [], ◌∷◌, map};
 ghost use Rattle.answers.specs.Meaning.{number};
 ghost use Rattle.sets.specs.Meaning.{answer_set, answers_in, has, member, pairs};

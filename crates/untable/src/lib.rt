@@ -7,6 +7,9 @@
 // then by ROWS where more than 64 rows are needed (place: how many), then by ROOM (place: bytes needed).
 //
 // The answers at all situations come from planes, and the table of them from listing.
+
+#![tactic(auto)]
+
 ghost use Rattle.std.specs.Prelude.{◌≡◌, length};
 ghost use Rattle.listing.specs.Meaning.{written_of};
 ghost use Rattle.untable.specs.Meaning.{table_back, untable_of};

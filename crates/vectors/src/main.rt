@@ -4,6 +4,9 @@
 // Numbers are decimal. Bytes are two lower-case hex digits each, and `-` is none of them. A situation by value is its
 // length and its six bytes. `compile` and `untable` are told how many bytes to lend, all of them 170, and their lines end in a sum
 // over the lent bytes after the call. A line that calls nothing of this is answered by `?`.
+
+#![tactic(auto)]
+
 mod calls;
 mod reading;
 mod writing;

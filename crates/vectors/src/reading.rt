@@ -10,7 +10,7 @@ const LINE_FEED: u8 = 10;
 
 const SPACE: u8 = 32;
 
-#[derive(Drop)]
+#[derive(Clone, Copy)]
 enum Input {
     Byte(u8),
     End,

@@ -7,6 +7,9 @@
 //
 // Refused, in this order: what `notices::read_notice` refuses of the notice; what `policies::policy` refuses from the root
 // on, where a 17th level is NEST; after the root, bytes left, TAIL.
+
+#![tactic(auto)]
+
 ghost use Rattle.std.specs.Prelude.{◌≡◌};
 ghost use Rattle.voices.specs.Meaning.{unheard, hear_of, speak_of};
 
@@ -17,7 +20,7 @@ use refusals::{Refusal, TAIL, none, refused};
 const LEVELS: usize = 16;
 
 // The set of possible answers, as a number (silent 1, bury 2, keep 4, clash 8), and its meet: 0 and silent in a refusal.
-#[derive(Drop)]
+#[derive(Clone, Copy)]
 pub struct Heard {
     pub refusal: Refusal,
     pub set: u8,

@@ -8,7 +8,7 @@ pub const VOICES: usize = 32;
 pub const ENDS: usize = 33;
 
 // Where a voice ends in the store, where it was read.
-#[derive(Drop)]
+#[derive(Clone, Copy)]
 struct Voice {
     end: usize,
     read: bool,

@@ -4,6 +4,9 @@
 // batch is read, each voice's record is printed (`reports`), and at the end, where the batch was refused, why.
 // What cannot be done is told in one line on standard error, and then nothing is printed: no argument or no voice, a file that
 // cannot be read, more than 32 voices, voices of more than 65,536 bytes together.
+
+#![tactic(auto)]
+
 mod files;
 mod windows;
 

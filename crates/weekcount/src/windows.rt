@@ -13,7 +13,7 @@ const STRIDE: usize = 100000;
 
 // How far the batch is counted: each voice's counts; why it was refused, if it was; the offset that the window starts at; how many
 // notices may still come; how many bytes of the window are kept; whether it has ended, and whether a read failed.
-#[derive(Drop)]
+#[derive(Clone, Copy)]
 pub struct Tally {
     pub weeks: [Counts; VOICES],
     pub refusal: Refusal,

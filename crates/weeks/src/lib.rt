@@ -6,6 +6,9 @@
 //
 // Refused: what `batches::fault` refuses of a field, with the field's offset. The field that is refused is no notice and is not
 // counted; the counts so far are handed back beside the refusal.
+
+#![tactic(auto)]
+
 ghost use Rattle.std.specs.Prelude.{◌≡◌};
 ghost use Rattle.weeks.specs.Meaning.{told, onto_of, week_of};
 
@@ -14,7 +17,7 @@ use counts::Counts;
 use fields::HEADER;
 use refusals::Refusal;
 
-#[derive(Drop)]
+#[derive(Clone, Copy)]
 pub struct Week {
     pub refusal: Refusal,
     pub counts: Counts,

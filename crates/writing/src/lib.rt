@@ -7,6 +7,9 @@
 // Each function inside goes on from a place and returns the next one: what stands between them is written where the buffer
 // has room for it, and counted in any case. So the walk over an empty buffer counts. The rows that a default adds stand in no
 // bytes: situation after situation is tried, and one that no row matches is written as it stands.
+
+#![tactic(auto)]
+
 ghost use Rattle.std.specs.Prelude.{◌≡◌, [], ◌∷◌, ◌+◌, ◌≤◌, ◌<◌, eqb, length};
 ghost use Rattle.lent.specs.Meaning.{WroteWhole};
 ghost use Rattle.lent.specs.Inside.{Wrote};
