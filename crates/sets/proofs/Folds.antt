@@ -14,6 +14,7 @@ module _ {A B : Type 0} (op : B → B → B) (unit : B)
   fold-append (a ∷ s) t = rw (more a (s ++ t), more a s, fold-append s t, assoc (g a) (F s) (F t))
 
   absorbed : {a : A} (s : List A) → Among a s → op (g a) (F s) ≡ F s
+  absorbed {a = a} [] x' = elim x' [ ]
   absorbed {a} (b ∷ s) (Memᴰ.head e) = rw (more b s, e, ← assoc (g b) (g b) (F s), idem (g b))
   absorbed {a} (b ∷ s) (Memᴰ.tail i) =
       rw (more b s, ← assoc (g a) (g b) (F s), comm (g a) (g b), assoc (g b) (g a) (F s), absorbed s i)

@@ -47,6 +47,7 @@ module _ {A : Type 0} (number : A → ℕ) (all : List A) (n : Numbered number a
       go false = refl
 
   pub among_set : (a : A) (s : List A) → Among a s → has number a (set_of number s) ≡ true
+  among_set a [] x' = elim x' [ ]
   among_set a (b ∷ s) (Memᴰ.head e) = has-cons a b s ∙ rw (← e, n.itself a)
   among_set a (b ∷ s) (Memᴰ.tail i) = has-cons a b s ∙ rw (among_set a s i) (go (eqb (number a) (number b)))
     where
@@ -66,6 +67,7 @@ module _ {A : Type 0} (number : A → ℕ) (all : List A) (n : Numbered number a
 
   -- The members of a number are those whose bits are 1.
   among_members : (a : A) (l : List A) (set : ℕ) → Among a l → has number a set ≡ true → Among a (members number l set)
+  among_members a [] set x'' h = elim x'' [ ]
   among_members a (b ∷ l) set (Memᴰ.head e) h =
       Memᴰ.append_left {s = member number b set} (members number l set) (rw (← e, h) (Memᴰ.head refl))
   among_members a (b ∷ l) set (Memᴰ.tail i) h = Memᴰ.append_right (member number b set) (among_members a l set i h)

@@ -4,5 +4,5 @@ use Rattle.sets.proofs.apply_one.Goals as goal
 
 pub returns : goal.returns
 returns c =
-    four-map number _ _ c.before.before.before.one_of_lem.ensures c.one_of-bury.ensures c.one_of-keep.ensures
+    four-map number _ _ c.before.before.before.one_of-silent.ensures c.one_of-bury.ensures c.one_of-keep.ensures
     c.one_of-clash.ensures
