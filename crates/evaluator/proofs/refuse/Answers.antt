@@ -1,0 +1,4 @@
+use Rattle.evaluator.proofs.refuse.Goals as goal
+
+pub returns : goal.returns
+returns c = rw c.refused.ensures
