@@ -5,72 +5,64 @@
 
 use answers::operators::{One, Two};
 use answers::{Answer, operators};
-use libc::STDOUT_FILENO;
+use std::io;
 
-fn digit(a: Answer) -> u8 {
+fn digit(a: Answer) -> char {
     match a {
-        Answer::Silent => b'0',
-        Answer::Bury => b'1',
-        Answer::Keep => b'2',
-        Answer::Clash => b'3',
+        Answer::Silent => '0',
+        Answer::Bury => '1',
+        Answer::Keep => '2',
+        Answer::Clash => '3',
     }
 }
 
-fn print_row(a: Answer, b: Answer, c: Answer, d: Answer) {
-    let text = [
-        digit(a),
-        b' ',
-        digit(b),
-        b' ',
-        digit(c),
-        b' ',
-        digit(d),
-        b'\n',
-    ];
-    io::write_all(STDOUT_FILENO, &text);
+fn print_row(rt: &impl Print, a: Answer, b: Answer, c: Answer, d: Answer) -> io::Result<()> {
+    println!(rt; "{} {} {} {}", digit(a), digit(b), digit(c), digit(d))
 }
 
-fn print_one(name: &[u8], o: One) {
-    io::write_all(STDOUT_FILENO, name);
+fn print_one(rt: &impl Print, name: &str, o: One) -> io::Result<()> {
+    println!(rt; "{name}")?;
     print_row(
+        rt,
         operators::apply_one(o, Answer::Silent),
         operators::apply_one(o, Answer::Bury),
         operators::apply_one(o, Answer::Keep),
         operators::apply_one(o, Answer::Clash),
-    );
+    )
 }
 
-fn print_at(o: Two, p: Answer) {
+fn print_at(rt: &impl Print, o: Two, p: Answer) -> io::Result<()> {
     print_row(
+        rt,
         operators::apply_two(o, p, Answer::Silent),
         operators::apply_two(o, p, Answer::Bury),
         operators::apply_two(o, p, Answer::Keep),
         operators::apply_two(o, p, Answer::Clash),
-    );
+    )
 }
 
-fn print_two(name: &[u8], o: Two) {
-    io::write_all(STDOUT_FILENO, name);
-    print_at(o, Answer::Silent);
-    print_at(o, Answer::Bury);
-    print_at(o, Answer::Keep);
-    print_at(o, Answer::Clash);
+fn print_two(rt: &impl Print, name: &str, o: Two) -> io::Result<()> {
+    println!(rt; "{name}")?;
+    print_at(rt, o, Answer::Silent)?;
+    print_at(rt, o, Answer::Bury)?;
+    print_at(rt, o, Answer::Keep)?;
+    print_at(rt, o, Answer::Clash)
 }
 
-fn main() {
-    print_one(b"negate\n", One::Negate);
-    print_one(b"turn\n", One::Turn);
-    print_one(b"floor\n", One::Floor);
-    print_one(b"ceiling\n", One::Ceiling);
-    print_two(b"meet\n", Two::Meet);
-    print_two(b"join\n", Two::Join);
-    print_two(b"truth meet\n", Two::TruthMeet);
-    print_two(b"truth join\n", Two::TruthJoin);
-    print_two(b"implication\n", Two::Implication);
-    print_two(b"guard\n", Two::Guard);
-    print_two(b"priority\n", Two::Priority);
-    print_two(b"replace 0\n", Two::Replace(Answer::Silent));
-    print_two(b"replace 1\n", Two::Replace(Answer::Bury));
-    print_two(b"replace 2\n", Two::Replace(Answer::Keep));
-    print_two(b"replace 3\n", Two::Replace(Answer::Clash));
+fn main(rt: HostRuntime) -> io::Result<()> {
+    print_one(&rt, "negate", One::Negate)?;
+    print_one(&rt, "turn", One::Turn)?;
+    print_one(&rt, "floor", One::Floor)?;
+    print_one(&rt, "ceiling", One::Ceiling)?;
+    print_two(&rt, "meet", Two::Meet)?;
+    print_two(&rt, "join", Two::Join)?;
+    print_two(&rt, "truth meet", Two::TruthMeet)?;
+    print_two(&rt, "truth join", Two::TruthJoin)?;
+    print_two(&rt, "implication", Two::Implication)?;
+    print_two(&rt, "guard", Two::Guard)?;
+    print_two(&rt, "priority", Two::Priority)?;
+    print_two(&rt, "replace 0", Two::Replace(Answer::Silent))?;
+    print_two(&rt, "replace 1", Two::Replace(Answer::Bury))?;
+    print_two(&rt, "replace 2", Two::Replace(Answer::Keep))?;
+    print_two(&rt, "replace 3", Two::Replace(Answer::Clash))
 }

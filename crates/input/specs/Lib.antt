@@ -1,2 +1,3 @@
 pub mod Meaning
+pub mod Counts
 pub mod Inside
