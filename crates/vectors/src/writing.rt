@@ -1,46 +1,40 @@
 // Replies, written.
 use carmuspeno::{CarmAnswer, CarmSituation};
-use libc::STDOUT_FILENO;
+use std::io;
 
-pub fn text(text: &[u8]) {
-    io::write_all(STDOUT_FILENO, text);
+pub fn text(rt: &impl Print, text: &[u8]) -> io::Result<()> {
+    rt.write_all(text)
 }
 
-pub fn next(n: u64) {
-    text(b" ");
-    io::print_decimal(STDOUT_FILENO, n);
+pub fn next(rt: &impl Print, n: u64) -> io::Result<()> {
+    print!(rt; " {n}")
 }
 
 // The three numbers that every reply starts with.
-pub fn three(number: u64, place: u64, second: u64) {
-    io::print_decimal(STDOUT_FILENO, number);
-    next(place);
-    next(second);
+pub fn three(rt: &impl Print, number: u64, place: u64, second: u64) -> io::Result<()> {
+    print!(rt; "{number} {place} {second}")
 }
 
-pub fn situation(s: CarmSituation) {
-    let answers = s.answers;
-    next(s.length);
-    text(b" ");
-    let mut i = 0;
-    while i < 6 {
-        io::print_hex(STDOUT_FILENO, answers[i] as u64, 2);
-        i += 1;
+pub fn situation(rt: &impl Print, s: CarmSituation) -> io::Result<()> {
+    next(rt, s.length)?;
+    text(rt, b" ")?;
+    for answer in s.answers {
+        print!(rt; "{answer:02x}")?;
     }
+    Ok(())
 }
 
 // The counts by number.
-pub fn numbers(by_number: [u64; 32]) {
-    let mut i = 0;
-    while i < 32 {
-        next(by_number[i]);
-        i += 1;
+pub fn numbers(rt: &impl Print, by_number: [u64; 32]) -> io::Result<()> {
+    for count in by_number {
+        next(rt, count)?;
     }
+    Ok(())
 }
 
 // The whole line of a reply that answers.
-pub fn answer(reply: CarmAnswer) {
-    three(reply.number, reply.place, reply.second);
-    next(reply.answer);
-    text(b"\n");
+pub fn answer(rt: &impl Print, reply: CarmAnswer) -> io::Result<()> {
+    three(rt, reply.number, reply.place, reply.second)?;
+    next(rt, reply.answer)?;
+    text(rt, b"\n")
 }
