@@ -1,8 +1,8 @@
 // The calls: each reads its operands from the words after its name, and writes the line of its reply.
 ghost use Rattle.std.specs.Prelude.{◌<◌};
 
+use crate::printing;
 use crate::reading::{byte, bytes, front, number, rest, same, situation, word};
-use crate::writing;
 use std::io;
 
 // The most bytes that an operand has, and the most that are lent.
@@ -12,19 +12,19 @@ const MOST: usize = 4300;
 fn one(rt: &impl Print, name: &[u8], operands: &[u8]) -> io::Result<bool> {
     let p = byte(word(operands));
     if same(name, b"negate") {
-        writing::answer(rt, carmuspeno::carm_negate(p))?;
+        printing::answer(rt, carmuspeno::carm_negate(p))?;
         return Ok(true);
     }
     if same(name, b"turn") {
-        writing::answer(rt, carmuspeno::carm_turn(p))?;
+        printing::answer(rt, carmuspeno::carm_turn(p))?;
         return Ok(true);
     }
     if same(name, b"floor") {
-        writing::answer(rt, carmuspeno::carm_floor(p))?;
+        printing::answer(rt, carmuspeno::carm_floor(p))?;
         return Ok(true);
     }
     if same(name, b"ceiling") {
-        writing::answer(rt, carmuspeno::carm_ceiling(p))?;
+        printing::answer(rt, carmuspeno::carm_ceiling(p))?;
         return Ok(true);
     }
     Ok(false)
@@ -35,35 +35,35 @@ fn two(rt: &impl Print, name: &[u8], operands: &[u8]) -> io::Result<bool> {
     let p = byte(word(operands));
     let q = byte(word(rest(operands)));
     if same(name, b"meet") {
-        writing::answer(rt, carmuspeno::carm_meet(p, q))?;
+        printing::answer(rt, carmuspeno::carm_meet(p, q))?;
         return Ok(true);
     }
     if same(name, b"join") {
-        writing::answer(rt, carmuspeno::carm_join(p, q))?;
+        printing::answer(rt, carmuspeno::carm_join(p, q))?;
         return Ok(true);
     }
     if same(name, b"truth_meet") {
-        writing::answer(rt, carmuspeno::carm_truth_meet(p, q))?;
+        printing::answer(rt, carmuspeno::carm_truth_meet(p, q))?;
         return Ok(true);
     }
     if same(name, b"truth_join") {
-        writing::answer(rt, carmuspeno::carm_truth_join(p, q))?;
+        printing::answer(rt, carmuspeno::carm_truth_join(p, q))?;
         return Ok(true);
     }
     if same(name, b"implication") {
-        writing::answer(rt, carmuspeno::carm_implication(p, q))?;
+        printing::answer(rt, carmuspeno::carm_implication(p, q))?;
         return Ok(true);
     }
     if same(name, b"guard") {
-        writing::answer(rt, carmuspeno::carm_guard(p, q))?;
+        printing::answer(rt, carmuspeno::carm_guard(p, q))?;
         return Ok(true);
     }
     if same(name, b"priority") {
-        writing::answer(rt, carmuspeno::carm_priority(p, q))?;
+        printing::answer(rt, carmuspeno::carm_priority(p, q))?;
         return Ok(true);
     }
     if same(name, b"contained") {
-        writing::answer(rt, carmuspeno::carm_contained(p, q))?;
+        printing::answer(rt, carmuspeno::carm_contained(p, q))?;
         return Ok(true);
     }
     Ok(false)
@@ -74,7 +74,7 @@ fn replace(rt: &impl Print, operands: &[u8]) -> io::Result<()> {
     let after = rest(operands);
     let p = byte(word(after));
     let q = byte(word(rest(after)));
-    writing::answer(rt, carmuspeno::carm_replace(x, p, q))
+    printing::answer(rt, carmuspeno::carm_replace(x, p, q))
 }
 
 fn evaluate(rt: &impl Print, operands: &[u8]) -> io::Result<()> {
@@ -82,7 +82,7 @@ fn evaluate(rt: &impl Print, operands: &[u8]) -> io::Result<()> {
     let mut columns = [0u8; MOST];
     let n = bytes(word(operands), &mut nodes);
     let c = bytes(word(rest(operands)), &mut columns);
-    writing::answer(rt, carmuspeno::carm_evaluate(&nodes[..n], &columns[..c]))
+    printing::answer(rt, carmuspeno::carm_evaluate(&nodes[..n], &columns[..c]))
 }
 
 fn wide(byte: u8) -> u64
@@ -103,12 +103,12 @@ fn sum(lent: &[u8]) -> u64 {
 
 fn compile_into(rt: &impl Print, nodes: &mut [u8], table: &[u8]) -> io::Result<()> {
     let reply = carmuspeno::carm_compile(table, nodes);
-    writing::three(rt, reply.number, reply.place, reply.second)?;
-    writing::next(rt, reply.columns)?;
-    writing::next(rt, reply.rows)?;
-    writing::next(rt, reply.nodes)?;
-    writing::next(rt, sum(nodes))?;
-    writing::text(rt, b"\n")
+    printing::three(rt, reply.number, reply.place, reply.second)?;
+    printing::next(rt, reply.columns)?;
+    printing::next(rt, reply.rows)?;
+    printing::next(rt, reply.nodes)?;
+    printing::next(rt, sum(nodes))?;
+    printing::text(rt, b"\n")
 }
 
 fn compile(rt: &impl Print, operands: &[u8]) -> io::Result<()> {
@@ -121,10 +121,10 @@ fn compile(rt: &impl Print, operands: &[u8]) -> io::Result<()> {
 
 fn untable_into(rt: &impl Print, table: &mut [u8], nodes: &[u8], columns: u64) -> io::Result<()> {
     let reply = carmuspeno::carm_untable(nodes, columns, table);
-    writing::three(rt, reply.number, reply.place, reply.second)?;
-    writing::next(rt, reply.length)?;
-    writing::next(rt, sum(table))?;
-    writing::text(rt, b"\n")
+    printing::three(rt, reply.number, reply.place, reply.second)?;
+    printing::next(rt, reply.length)?;
+    printing::next(rt, sum(table))?;
+    printing::text(rt, b"\n")
 }
 
 fn untable(rt: &impl Print, operands: &[u8]) -> io::Result<()> {
@@ -142,9 +142,9 @@ fn merge(rt: &impl Print, operands: &[u8]) -> io::Result<()> {
     let second = situation(rest(rest(operands)));
     let reply = carmuspeno::carm_merge(first, second);
     let merged = reply.situation;
-    writing::three(rt, reply.number, reply.place, reply.second)?;
-    writing::situation(rt, merged)?;
-    writing::text(rt, b"\n")
+    printing::three(rt, reply.number, reply.place, reply.second)?;
+    printing::situation(rt, merged)?;
+    printing::text(rt, b"\n")
 }
 
 fn growth(rt: &impl Print, operands: &[u8]) -> io::Result<()> {
@@ -153,21 +153,21 @@ fn growth(rt: &impl Print, operands: &[u8]) -> io::Result<()> {
     let columns = number(word(rest(operands)));
     let reply = carmuspeno::carm_check_growth(&nodes[..n], columns);
     let from = reply.situation;
-    writing::three(rt, reply.number, reply.place, reply.second)?;
-    writing::next(rt, reply.verdict)?;
-    writing::situation(rt, from)?;
-    writing::next(rt, reply.column)?;
-    writing::next(rt, reply.answer)?;
-    writing::text(rt, b"\n")
+    printing::three(rt, reply.number, reply.place, reply.second)?;
+    printing::next(rt, reply.verdict)?;
+    printing::situation(rt, from)?;
+    printing::next(rt, reply.column)?;
+    printing::next(rt, reply.answer)?;
+    printing::text(rt, b"\n")
 }
 
 fn notice(rt: &impl Print, operands: &[u8]) -> io::Result<()> {
     let mut told = [0u8; MOST];
     let n = bytes(word(operands), &mut told);
     let reply = carmuspeno::carm_read_notice(&told[..n]);
-    writing::three(rt, reply.number, reply.place, reply.second)?;
-    writing::next(rt, reply.facts)?;
-    writing::text(rt, b"\n")
+    printing::three(rt, reply.number, reply.place, reply.second)?;
+    printing::next(rt, reply.facts)?;
+    printing::text(rt, b"\n")
 }
 
 fn speak(rt: &impl Print, operands: &[u8]) -> io::Result<()> {
@@ -175,7 +175,7 @@ fn speak(rt: &impl Print, operands: &[u8]) -> io::Result<()> {
     let mut voice = [0u8; MOST];
     let n = bytes(word(operands), &mut told);
     let v = bytes(word(rest(operands)), &mut voice);
-    writing::answer(rt, carmuspeno::carm_speak(&told[..n], &voice[..v]))
+    printing::answer(rt, carmuspeno::carm_speak(&told[..n], &voice[..v]))
 }
 
 fn speak_set(rt: &impl Print, operands: &[u8]) -> io::Result<()> {
@@ -184,10 +184,10 @@ fn speak_set(rt: &impl Print, operands: &[u8]) -> io::Result<()> {
     let n = bytes(word(operands), &mut told);
     let v = bytes(word(rest(operands)), &mut voice);
     let reply = carmuspeno::carm_speak_set(&told[..n], &voice[..v]);
-    writing::three(rt, reply.number, reply.place, reply.second)?;
-    writing::next(rt, reply.set)?;
-    writing::next(rt, reply.answer)?;
-    writing::text(rt, b"\n")
+    printing::three(rt, reply.number, reply.place, reply.second)?;
+    printing::next(rt, reply.set)?;
+    printing::next(rt, reply.answer)?;
+    printing::text(rt, b"\n")
 }
 
 fn count_week(rt: &impl Print, operands: &[u8]) -> io::Result<()> {
@@ -196,15 +196,15 @@ fn count_week(rt: &impl Print, operands: &[u8]) -> io::Result<()> {
     let n = bytes(word(operands), &mut batch);
     let v = bytes(word(rest(operands)), &mut voice);
     let reply = carmuspeno::carm_count_week(&batch[..n], &voice[..v]);
-    writing::three(rt, reply.number, reply.place, reply.second)?;
-    writing::next(rt, reply.silent)?;
-    writing::next(rt, reply.bury)?;
-    writing::next(rt, reply.keep)?;
-    writing::next(rt, reply.clash)?;
-    writing::next(rt, reply.refused)?;
+    printing::three(rt, reply.number, reply.place, reply.second)?;
+    printing::next(rt, reply.silent)?;
+    printing::next(rt, reply.bury)?;
+    printing::next(rt, reply.keep)?;
+    printing::next(rt, reply.clash)?;
+    printing::next(rt, reply.refused)?;
     let by_number = reply.by_number;
-    writing::numbers(rt, by_number)?;
-    writing::text(rt, b"\n")
+    printing::numbers(rt, by_number)?;
+    printing::text(rt, b"\n")
 }
 
 // One line.
@@ -247,5 +247,5 @@ pub fn call(rt: &impl Print, line: &[u8]) -> io::Result<()> {
     if same(name, b"count_week") {
         return count_week(rt, operands);
     }
-    writing::text(rt, b"?\n")
+    printing::text(rt, b"?\n")
 }

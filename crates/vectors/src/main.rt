@@ -9,8 +9,8 @@
 #![tactic(auto)]
 
 mod calls;
+mod printing;
 mod reading;
-mod writing;
 
 use std::io;
 use std::io::{Input, Read};
