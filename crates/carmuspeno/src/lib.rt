@@ -1,8 +1,7 @@
-// The C face: every entry point under its C name, for the firmware and the service to link. include/carmuspeno.h declares it.
+// The face: every entry point in the words of C. crates/carmuspeno_c exports each of these functions, which a library cannot do itself.
 //
 // It promises that each function gives the numbers of the function that it calls, and nothing else: every contract here
-// cites the definition that the called function's contract cites. A slice is a pointer and a length, and the pointer
-// of an empty slice may be null. Nothing keeps a pointer after it returns.
+// cites the definition that the called function's contract cites. Nothing keeps a slice after it returns.
 // It refuses nothing itself: number, place and second number are those of the function called.
 
 #![tactic(auto)]
@@ -29,116 +28,100 @@ pub use face::{
     CarmWeek, CarmWritten,
 };
 
-#[unsafe(no_mangle)]
-pub extern "C" fn carm_negate(p: u8) -> CarmAnswer
+pub fn carm_negate(p: u8) -> CarmAnswer
     ensures { result ≡ answer_face (one_of one.Negate p) }
 {
     face::one(One::Negate, p)
 }
 
-#[unsafe(no_mangle)]
-pub extern "C" fn carm_turn(p: u8) -> CarmAnswer
+pub fn carm_turn(p: u8) -> CarmAnswer
     ensures { result ≡ answer_face (one_of one.Turn p) }
 {
     face::one(One::Turn, p)
 }
 
-#[unsafe(no_mangle)]
-pub extern "C" fn carm_floor(p: u8) -> CarmAnswer
+pub fn carm_floor(p: u8) -> CarmAnswer
     ensures { result ≡ answer_face (one_of one.Floor p) }
 {
     face::one(One::Floor, p)
 }
 
-#[unsafe(no_mangle)]
-pub extern "C" fn carm_ceiling(p: u8) -> CarmAnswer
+pub fn carm_ceiling(p: u8) -> CarmAnswer
     ensures { result ≡ answer_face (one_of one.Ceiling p) }
 {
     face::one(One::Ceiling, p)
 }
 
-#[unsafe(no_mangle)]
-pub extern "C" fn carm_meet(p: u8, q: u8) -> CarmAnswer
+pub fn carm_meet(p: u8, q: u8) -> CarmAnswer
     ensures { result ≡ answer_face (two_of two.Meet p q) }
 {
     face::two(Two::Meet, p, q)
 }
 
-#[unsafe(no_mangle)]
-pub extern "C" fn carm_join(p: u8, q: u8) -> CarmAnswer
+pub fn carm_join(p: u8, q: u8) -> CarmAnswer
     ensures { result ≡ answer_face (two_of two.Join p q) }
 {
     face::two(Two::Join, p, q)
 }
 
-#[unsafe(no_mangle)]
-pub extern "C" fn carm_truth_meet(p: u8, q: u8) -> CarmAnswer
+pub fn carm_truth_meet(p: u8, q: u8) -> CarmAnswer
     ensures { result ≡ answer_face (two_of two.TruthMeet p q) }
 {
     face::two(Two::TruthMeet, p, q)
 }
 
-#[unsafe(no_mangle)]
-pub extern "C" fn carm_truth_join(p: u8, q: u8) -> CarmAnswer
+pub fn carm_truth_join(p: u8, q: u8) -> CarmAnswer
     ensures { result ≡ answer_face (two_of two.TruthJoin p q) }
 {
     face::two(Two::TruthJoin, p, q)
 }
 
-#[unsafe(no_mangle)]
-pub extern "C" fn carm_implication(p: u8, q: u8) -> CarmAnswer
+pub fn carm_implication(p: u8, q: u8) -> CarmAnswer
     ensures { result ≡ answer_face (two_of two.Implication p q) }
 {
     face::two(Two::Implication, p, q)
 }
 
-#[unsafe(no_mangle)]
-pub extern "C" fn carm_guard(p: u8, q: u8) -> CarmAnswer
+pub fn carm_guard(p: u8, q: u8) -> CarmAnswer
     ensures { result ≡ answer_face (two_of two.Guard p q) }
 {
     face::two(Two::Guard, p, q)
 }
 
-#[unsafe(no_mangle)]
-pub extern "C" fn carm_priority(p: u8, q: u8) -> CarmAnswer
+pub fn carm_priority(p: u8, q: u8) -> CarmAnswer
     ensures { result ≡ answer_face (two_of two.Priority p q) }
 {
     face::two(Two::Priority, p, q)
 }
 
 // x in p replaced by q.
-#[unsafe(no_mangle)]
-pub extern "C" fn carm_replace(x: u8, p: u8, q: u8) -> CarmAnswer
+pub fn carm_replace(x: u8, p: u8, q: u8) -> CarmAnswer
     ensures { result ≡ answer_face (replace_of x p q) }
 {
     face::answer_face(operands::replace(x, p, q))
 }
 
 // 1 where p is contained in q, else 0.
-#[unsafe(no_mangle)]
-pub extern "C" fn carm_contained(p: u8, q: u8) -> CarmAnswer
+pub fn carm_contained(p: u8, q: u8) -> CarmAnswer
     ensures { result ≡ contained_face (contained_of p q) }
 {
     face::contained_face(operands::contained(p, q))
 }
 
-#[unsafe(no_mangle)]
-pub extern "C" fn carm_compile(table: &[u8], nodes: &mut [u8]) -> CarmCompiled
+pub fn carm_compile(table: &[u8], nodes: &mut [u8]) -> CarmCompiled
     ensures reply { result ≡ compiled_face (compile_of table.now (length nodes.old)) }
     ensures written { nodes.new ≡ written_of table.now nodes.old }
 {
     face::compiled_face(compiler::compile(table, nodes))
 }
 
-#[unsafe(no_mangle)]
-pub extern "C" fn carm_evaluate(nodes: &[u8], situation: &[u8]) -> CarmAnswer
+pub fn carm_evaluate(nodes: &[u8], situation: &[u8]) -> CarmAnswer
     ensures { result ≡ answer_face (evaluate_of nodes.now situation.now) }
 {
     face::answer_face(evaluator::evaluate(nodes, situation))
 }
 
-#[unsafe(no_mangle)]
-pub extern "C" fn carm_merge(first: CarmSituation, second: CarmSituation) -> CarmMerged
+pub fn carm_merge(first: CarmSituation, second: CarmSituation) -> CarmMerged
     ensures { result ≡ merged_face (merge_of (situation_behind first) (situation_behind second)) }
 {
     let old = face::situation_behind(first);
@@ -146,47 +129,41 @@ pub extern "C" fn carm_merge(first: CarmSituation, second: CarmSituation) -> Car
     face::merged_face(merged)
 }
 
-#[unsafe(no_mangle)]
-pub extern "C" fn carm_check_growth(nodes: &[u8], columns: u64) -> CarmGrowth
+pub fn carm_check_growth(nodes: &[u8], columns: u64) -> CarmGrowth
     ensures { result ≡ growth_face (growth_of nodes.now columns) }
 {
     face::growth_face(growth::check_growth(nodes, columns as usize))
 }
 
-#[unsafe(no_mangle)]
-pub extern "C" fn carm_read_notice(notice: &[u8]) -> CarmNoticed
+pub fn carm_read_notice(notice: &[u8]) -> CarmNoticed
     ensures { result ≡ noticed_face (notice_of notice.now) }
 {
     face::noticed_face(notices::read_notice(notice))
 }
 
 // What the voice's column receives: the meet of the set below.
-#[unsafe(no_mangle)]
-pub extern "C" fn carm_speak(notice: &[u8], voice: &[u8]) -> CarmAnswer
+pub fn carm_speak(notice: &[u8], voice: &[u8]) -> CarmAnswer
     ensures { result ≡ answer_face (speak_of notice.now voice.now) }
 {
     face::answer_face(voices::speak(notice, voice))
 }
 
 // The set of all that the voice may answer, and its meet.
-#[unsafe(no_mangle)]
-pub extern "C" fn carm_speak_set(notice: &[u8], voice: &[u8]) -> CarmHeard
+pub fn carm_speak_set(notice: &[u8], voice: &[u8]) -> CarmHeard
     ensures { result ≡ heard_face (hear_of notice.now voice.now) }
 {
     face::heard_face(voices::speak_set(notice, voice))
 }
 
 // The voice's record over a batch of notices.
-#[unsafe(no_mangle)]
-pub extern "C" fn carm_count_week(batch: &[u8], voice: &[u8]) -> CarmWeek
+pub fn carm_count_week(batch: &[u8], voice: &[u8]) -> CarmWeek
     ensures { result ≡ week_face (week_of batch.now voice.now) }
 {
     face::week_face(weeks::count_week(batch, voice))
 }
 
 // The table of what the nodes answer at the situations of so many columns.
-#[unsafe(no_mangle)]
-pub extern "C" fn carm_untable(nodes: &[u8], columns: u64, table: &mut [u8]) -> CarmWritten
+pub fn carm_untable(nodes: &[u8], columns: u64, table: &mut [u8]) -> CarmWritten
     ensures reply { result ≡ written_face (untable_of nodes.now columns (length table.old)) }
     ensures written { table.new
         ≡ listing.written_of (table_back nodes.now columns) (untable_of nodes.now columns (length table.old))
