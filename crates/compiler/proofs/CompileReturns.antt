@@ -15,8 +15,7 @@ use Rattle.refusals.specs.Meaning.{none, refused, ROOM}
 use Rattle.refusals.specs.declared.Refusal.{Refusal}
 use Rattle.tables.specs.declared.TableRead.{TableRead}
 use Rattle.answers.specs.declared.Answer.{Answer}
-use Rattle.rows.specs.Meaning.{row_count, rows_in}
-use Rattle.faults.specs.Meaning.{columns_of}
+use Rattle.rows.specs.Meaning.{rows_in}
 use Rattle.defaults.specs.Meaning.{default_answer, default_in}
 use Rattle.tables.specs.Meaning.{read_of, behind_columns, rows_part, table_of}
 use Rattle.tables.proofs.Accepted.{read_accepted}

@@ -12,7 +12,7 @@ use Rattle.answers.specs.declared.Answer.TheVariants.{Silent, Bury, Keep, Clash}
 use Rattle.answers.specs.declared.Reply.{Reply}
 use Rattle.answers.specs.Meaning.{number}
 use Rattle.counts.specs.declared.Counts.{Counts}
-use Rattle.counts.specs.Meaning.{count, refused, refused_as, numbers_from, counts_of, more, raised, raised_all, plus}
+use Rattle.counts.specs.Meaning.{count, refused_as, numbers_from, counts_of, more, raised, raised_all, plus}
 use Rattle.counts.specs.Inside.{answered, tallied}
 
 -- a reply that is refused with none of the numbers listed raises none of them

@@ -1,6 +1,6 @@
 -- No text is longer than 256 bytes.
-use Prim.Native.Nat.{ℕ, zero, suc, ◌+◌, ◌*◌, ◌^◌, ◌≤◌, ◌<◌}
-use mathlib.Core.Path.{◌≡◌, refl, ap, sym, ◌∙◌}
+use Prim.Native.Nat.{ℕ, zero, suc, ◌*◌, ◌^◌, ◌≤◌, ◌<◌}
+use mathlib.Core.Path.{◌≡◌, refl, ap, ◌∙◌}
 use mathlib.Core.Bool.{Bool, true, false, cond}
 use mathlib.Core.List.{List, [], ◌∷◌, ◌++◌, map}
 use lib.Dec.{ltb, eqb}
@@ -11,7 +11,6 @@ use Rattle.refusals.specs.Meaning.{none}
 use Rattle.refusals.specs.declared.Refusal.{Refusal}
 use Rattle.answers.specs.Meaning.{number}
 use Rattle.answers.specs.declared.Answer.{Answer}
-use Rattle.answers.specs.declared.Answer.TheVariants.{Silent, Bury, Keep, Clash}
 use Rattle.answers.proofs.Every.{each}
 use Rattle.situations.specs.Meaning.{situation_at}
 use Rattle.situations.proofs.Numbers.{situation_at-length}
@@ -27,7 +26,7 @@ use Rattle.selection.proofs.Replies.{accepted_read, accepted_reply_lem}
 use Rattle.steps.specs.Meaning.{first_situation}
 use Rattle.growth.specs.declared.Growth.{Growth}
 use Rattle.growth.specs.Meaning.{answer_at, without, shown, growth_of}
-use Rattle.text.specs.Meaning.{number_text, refusal_line}
+use Rattle.text.specs.Meaning.{refusal_line}
 use Rattle.text.proofs.Decimals.{number_text-below, number_text-length}
 use Rattle.lines.specs.Meaning.{growth_yes, growth_no, count_lines, answers_text, raised_text, growth_line}
 use Rattle.judging.specs.Meaning.{text_of}

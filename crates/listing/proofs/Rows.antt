@@ -11,7 +11,7 @@ use Rattle.answers.specs.declared.Answer.TheVariants.{Silent}
 use Rattle.situations.specs.Meaning.{weight, situation_at}
 use Rattle.situations.proofs.Numbers.{situation_at-length}
 use Rattle.base4.specs.Meaning.{situations_from, situations_of}
-use Rattle.rows.specs.Meaning.{is, Row, row, row_field, row_fields, row_width}
+use Rattle.rows.specs.Meaning.{is, Row, row_field, row_fields, row_width}
 use Rattle.accepting.proofs.RowsEncoding.{Wide, row_fields-length}
 use Rattle.formula.specs.Meaning.{is_silent, own_row}
 use Rattle.listing.specs.Meaning.{listed_rows}

@@ -7,7 +7,7 @@ use lib.Seq.{length-sets}
 use borrow.Author.Tests.{ne_eqb}
 use native.Mathlib.Nat.{sub-zero}
 use native.Mathlib.Omega.{arith}
-use Rattle.lent.specs.Inside.{Wrote, Writing}
+use Rattle.lent.specs.Inside.{Wrote}
 use Rattle.lent.proofs.Laws.{wrote_none, wrote_counted, writing_start, writing_more, writing_done}
 use Rattle.answers.specs.Meaning.{number, from_number}
 use Rattle.answers.proofs.Claims.{from_number_lem}

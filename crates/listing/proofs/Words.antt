@@ -12,7 +12,7 @@ use native.Mathlib.Omega.{arith}
 use Rattle.words.specs.Meaning.{bit}
 use Rattle.answers.specs.declared.Answer.TheVariants.{Silent}
 use Rattle.planes.specs.Meaning.{lane}
-use Rattle.listing.specs.Inside.{behind, lowest, ahead_of}
+use Rattle.listing.specs.Inside.{behind, ahead_of}
 
 -- how far it is
 module _ (low high w : ℕ) where

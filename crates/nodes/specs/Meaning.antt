@@ -94,7 +94,7 @@ unfoldable pub evaluate_of : List ℕ → List ℕ → Reply
 evaluate_of nodes s = reply_after (fault s) (run full (answers_of s) 0 [] nodes)
 
 -- No rules of the document, but how the machines run: the turns (node 5) behind a column are done at once with it. The law
--- run-past says that a run may do so. How many turns an array begins with:
+-- run_past says that a run may do so. How many turns an array begins with:
 unfoldable pub turns : List ℕ → ℕ
 turns [] = 0
 turns (b ∷ nodes) = cond (eqb b 5) (suc (turns nodes)) 0

@@ -11,7 +11,6 @@ use Rattle.refusals.specs.declared.Refusal.{Refusal}
 use Rattle.refusals.specs.Meaning.{none}
 use Rattle.fields.specs.Meaning.{two, two_at}
 use Rattle.fields.proofs.Rests.{rest-is}
-use Rattle.notices.specs.declared.Noticed.{Noticed}
 use Rattle.notices.specs.Meaning.{Fact, Reading, facts, refused, followed, first_fact, fault, read_rest, noticed, notice_of}
 use Rattle.notices.specs.Inside.{sound, sounds, least_at}
 use Rattle.notices.proofs.Faults.{Sound, fault-none}

@@ -9,7 +9,6 @@ use lib.ListN.{length, get_or, drop, length-drop}
 use lib.Seq.{get_or-drop, drop-drop}
 use borrow.Author.Tests.{lt-ltb, le-ltb, eq-eqb, ne_eqb, eqb-true, eqb-false, ltb-true, ltb-false}
 use Rattle.fields.specs.Meaning.{two, four}
-use Rattle.notices.specs.declared.Seen.{Seen}
 use Rattle.notices.specs.declared.Seen.TheVariants.{Value, Absent}
 use Rattle.notices.specs.Meaning.{Fact, first_fact, seen, facts_in}
 use Rattle.notices.specs.Inside.{fields_in}

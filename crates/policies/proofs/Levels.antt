@@ -19,13 +19,11 @@ use Rattle.codes.specs.declared.TestKind.TheVariants as T
 use Rattle.codes.specs.declared.Joint.{Joint}
 use Rattle.codes.specs.Meaning.{policy_kind, test_kind}
 use Rattle.sets.specs.Meaning.{answer_set}
-use Rattle.trees.specs.Meaning.{may_say, refused}
+use Rattle.trees.specs.Meaning.{may_say}
 use Rattle.trees.specs.Meaning.{comparison_at, present_at, policy_by, test_by, policy_at, test_at}
 use Rattle.leaves.specs.declared.Held.{Held}
-use Rattle.leaves.specs.declared.Held.TheVariants as Held
 use Rattle.leaves.specs.Meaning.{held}
 use Rattle.policies.specs.declared.Told.{Told}
-use Rattle.policies.specs.declared.Told.TheVariants as Told
 use Rattle.policies.specs.Meaning.{told}
 use Rattle.policies.proofs.Operands.{on_told, on_held, one_on, two_on, when_on, not_on, joint_on, answers_on}
 use Rattle.policies.proofs.Operands.{told_one_of, told_two_of, told_when_of, held_not_of, held_joint_of, held_answers_of}

@@ -1,5 +1,5 @@
 -- What a tree may say, and what a test may be, hangs on what its operands may say and be alone: on their sets, handed on as numbers.
-use Prim.Native.Nat.{ℕ, ◌-◌}
+use Prim.Native.Nat.{ℕ}
 use mathlib.Core.Path.{◌≡◌, refl, sym, ap}
 use mathlib.Core.Bool.{not as opposite}
 use mathlib.Core.List.{List, map}
@@ -16,10 +16,8 @@ use Rattle.truths.specs.Meaning.{truth_number, truth_set, truths_in, combine, an
 use Rattle.truths.proofs.Truths.{not_handed, joint_handed, when_handed}
 use Rattle.trees.specs.Meaning.{Policy, Test, one, two, when, not, joint, answers, may_say, may_hold, Read, made, refused, and_then}
 use Rattle.leaves.specs.declared.Held.{Held}
-use Rattle.leaves.specs.declared.Held.TheVariants as Held
 use Rattle.leaves.specs.Meaning.{held}
 use Rattle.policies.specs.declared.Told.{Told}
-use Rattle.policies.specs.declared.Told.TheVariants as Told
 use Rattle.policies.specs.Meaning.{told}
 
 -- What is done with a set that was told, and with one that was held; a refusal stays.

@@ -1,7 +1,7 @@
 -- Two words that hold an answer in every lane, or a digit of the lane's number, turned.
 use Prim.Native.Nat.{ℕ, zero, suc, ◌+◌, ◌*◌, ◌/◌, ◌%◌, ◌^◌, ◌≤◌, ◌<◌}
 use mathlib.Core.Path.{◌≡◌, refl, ◌∙◌}
-use mathlib.Core.Bool.{Bool, true}
+use mathlib.Core.Bool.{Bool}
 use mathlib.Core.List.{List, [], ◌∷◌}
 use lib.Dec.{eqb}
 use lib.ListN.{length, get_or}
@@ -13,7 +13,6 @@ use Rattle.answers.specs.declared.Answer.{Answer}
 use Rattle.answers.specs.declared.Answer.TheVariants.{Silent, Bury, Keep, Clash}
 use Rattle.situations.specs.Meaning.{digit}
 use Rattle.running.proofs.Turning.{turned_by-number}
-use Rattle.pushes.specs.declared.Pair.{Pair}
 use Rattle.pushes.specs.Inside.{Whole, low_bury, low_keep, Low}
 
 -- the same answer in all lanes

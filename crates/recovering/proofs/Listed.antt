@@ -18,7 +18,7 @@ use Rattle.situations.proofs.Numbers.{situation_at-length}
 use Rattle.situations.proofs.Weights.{weight_power}
 use Rattle.base4.specs.Meaning.{situations_of}
 use Rattle.base4.proofs.Listing.{situations_from-length}
-use Rattle.rows.specs.Meaning.{is, Row, row, matches}
+use Rattle.rows.specs.Meaning.{Row, row, matches}
 use Rattle.defaults.specs.Meaning.{unwritten}
 use Rattle.tables.specs.Meaning.{Table, WellFormed, Consistent, says, table_bytes}
 use Rattle.accepting.proofs.RowsEncoding.{Wide}

@@ -8,7 +8,7 @@ use lib.Dec.{eqb}
 use lib.ListN.{length, drop, get_or, replicate}
 use lib.Seq.{drop-cons}
 use native.Mathlib.Omega.{arith}
-use Rattle.answers.specs.Meaning.{number, negate, turn, meet}
+use Rattle.answers.specs.Meaning.{number, negate, meet}
 use Rattle.answers.specs.declared.Answer.{Answer}
 use Rattle.answers.specs.declared.Answer.TheVariants.{Silent, Bury, Keep, Clash}
 use Rattle.answers.proofs.Every.{each, all2}

@@ -9,7 +9,6 @@ use Rattle.words.specs.Meaning.{bit}
 use Rattle.words.proofs.Bits.{Both, either, bit-small}
 use Rattle.answers.specs.declared.Answer.{Answer}
 use Rattle.answers.specs.declared.Answer.TheVariants.{Silent, Bury, Keep, Clash}
-use Rattle.answers.specs.Meaning.{number}
 use Rattle.sets.specs.Meaning.{set_of, has, answer_set, answers_in}
 
 abbrev one : Answer → ℕ → List Answer

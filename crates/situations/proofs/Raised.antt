@@ -1,5 +1,5 @@
 -- The number of a situation after a step: it grows by the column's weight times the difference of the answers' numbers.
-use Prim.Native.Nat.{ℕ, zero, suc, ◌+◌, ◌-◌, ◌*◌, ◌^◌, ◌≤◌, ◌<◌}
+use Prim.Native.Nat.{ℕ, zero, suc, ◌+◌, ◌-◌, ◌*◌, ◌^◌, ◌<◌}
 use mathlib.Core.Path.{◌≡◌, refl, ap, sym, ◌∙◌}
 use mathlib.Core.List.{List, [], ◌∷◌}
 use lib.ListN.{length, get_or, set, length-set}
@@ -8,9 +8,8 @@ use native.Mathlib.Omega.{arith}
 use Rattle.answers.specs.Meaning.{number}
 use Rattle.answers.specs.declared.Answer.{Answer}
 use Rattle.answers.specs.declared.Answer.TheVariants.{Silent}
-use Rattle.answers.proofs.Claims.{from_number_lem}
 use Rattle.situations.specs.Meaning.{digit, index_onto, index, situation_at}
-use Rattle.situations.proofs.Numbers.{situation_at-length, index-situation_at, index-small}
+use Rattle.situations.proofs.Numbers.{situation_at-length, index-situation_at}
 use Rattle.situations.proofs.Columns.{column-digit}
 
 -- the highest digit stands apart

@@ -1,5 +1,5 @@
 -- What is read from bytes is a tree that they encode, of so many levels; where reading is refused, it gives a number.
-use Prim.Native.Nat.{ℕ, zero, suc, ◌+◌, ◌≤◌, ◌<◌, max}
+use Prim.Native.Nat.{ℕ, zero, suc, ◌+◌, ◌≤◌, ◌<◌}
 use mathlib.Core.Path.{◌≡◌, refl, sym, ap, ◌∙◌}
 use mathlib.Core.Bool.{Bool, true, false, cond}
 use mathlib.Core.List.{List, [], ◌∷◌, ◌++◌, append_assoc}
@@ -18,7 +18,7 @@ use Rattle.codes.specs.declared.PolicyKind.TheVariants as P
 use Rattle.codes.specs.declared.TestKind.{TestKind}
 use Rattle.codes.specs.declared.TestKind.TheVariants as T
 use Rattle.codes.specs.Meaning.{policy_kind, test_kind}
-use Rattle.trees.specs.Meaning.{Policy, Test, constant, one, two, when, not, joint, comparison, present, answers, Read, made, refused}
+use Rattle.trees.specs.Meaning.{Policy, Test, one, two, when, not, joint, comparison, present, answers, Read, made, refused}
 use Rattle.trees.specs.Meaning.{and_then, comparison_at, present_at, policy_by, test_by, policy_at, test_at, PolicyBytes, TestBytes}
 use Rattle.trees.specs.Meaning.{write_constant, write_one, write_two, write_when, write_not, write_joint, write_comparison}
 use Rattle.trees.specs.Meaning.{write_present, write_answers, policy_depth, test_depth, PolicyFits, TestFits}

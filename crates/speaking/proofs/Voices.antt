@@ -1,5 +1,5 @@
 -- A voice is accepted exactly when it encodes a lawful tree, and that tree is the only one; it answers what the tree may say.
-use Prim.Native.Nat.{ℕ, ◌+◌, ◌-◌, ◌≤◌, max}
+use Prim.Native.Nat.{ℕ, ◌+◌, ◌-◌, ◌≤◌}
 use mathlib.Core.Path.{◌≡◌, refl, sym, ap, ap₂, subst, ◌∙◌}
 use mathlib.Core.Bool.{Bool, true, false, cond}
 use mathlib.Core.List.{List, [], ◌++◌, append-nil}

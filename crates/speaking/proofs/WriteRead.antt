@@ -1,7 +1,7 @@
 -- A tree that is written is read back, with what follows it left over.
-use Prim.Native.Nat.{ℕ, zero, suc, ◌+◌, ◌-◌, ◌≤◌, ◌<◌, max}
+use Prim.Native.Nat.{ℕ, suc, ◌+◌, ◌-◌, ◌≤◌, ◌<◌, max}
 use mathlib.Core.Path.{◌≡◌, refl, sym, ap, ◌∙◌}
-use mathlib.Core.List.{List, [], ◌∷◌, ◌++◌, append_assoc}
+use mathlib.Core.List.{List, ◌∷◌, ◌++◌, append_assoc}
 use native.Mathlib.Omega.{arith}
 use lib.ListN.{length, get_or, drop, length-drop}
 use lib.Seq.{get_or-drop, drop-drop}
@@ -14,7 +14,7 @@ use Rattle.codes.specs.declared.PolicyKind.TheVariants as P
 use Rattle.codes.specs.declared.TestKind.{TestKind}
 use Rattle.codes.specs.declared.TestKind.TheVariants as T
 use Rattle.codes.specs.Meaning.{policy_kind, test_kind}
-use Rattle.trees.specs.Meaning.{Policy, Test, constant, one, two, when, not, joint, comparison, present, answers, Read, made, and_then}
+use Rattle.trees.specs.Meaning.{Policy, Test, one, two, when, not, joint, comparison, present, answers, Read, made, and_then}
 use Rattle.trees.specs.Meaning.{comparison_at, present_at, policy_by, test_by, policy_at, test_at, PolicyBytes, TestBytes, write_constant}
 use Rattle.trees.specs.Meaning.{write_one, write_two, write_when, write_not, write_joint, write_comparison, write_present}
 use Rattle.trees.specs.Meaning.{write_answers, policy_depth, test_depth}

@@ -8,8 +8,8 @@
 
 ghost use Rattle.std.specs.Prelude.{◌≡◌, length};
 
-use libc::{STDERR_FILENO, STDIN_FILENO, STDOUT_FILENO};
 use listing::Written;
+use std::env::{Env, FillError};
 
 // The longest array that is read. Compiling never gives more than 200,771 nodes.
 const NODES: usize = 266240;
@@ -20,33 +20,37 @@ const TABLE: usize = 644;
 // The line of a refusal is shorter: three numbers of at most 20 digits.
 const LINE: usize = 128;
 
-fn say(line: &[u8]) {
-    io::write_all(STDERR_FILENO, line);
+// The longest argument that is read as a number.
+const ARGUMENT: usize = 4096;
+
+// Tells a line on standard error. Where that fails too, nobody is left to be told.
+fn say(rt: &HostRuntime, line: &[u8]) {
+    let _ = rt.stderr().write_all(line);
 }
 
-fn tell(written: Written) {
+fn tell(rt: &HostRuntime, written: Written) {
     let mut line = [0u8; LINE];
     let end = text::put_refusal(&mut line, 0, written.refusal);
-    say(&line[..end]);
+    say(rt, &line[..end]);
 }
 
-fn give_back(nodes: &[u8], columns: usize) {
+fn give_back(rt: &HostRuntime, nodes: &[u8], columns: usize) {
     let mut table = [0u8; TABLE];
     let written = untable::untable(nodes, columns, &mut table);
     if written.refusal.number != 0 {
-        return tell(written);
+        return tell(rt, written);
     }
     let length = written.length;
-    if !io::write_all(STDOUT_FILENO, &table[..length]) {
-        say(b"tableback: the table could not be written\n");
+    if rt.write_all(&table[..length]).is_err() {
+        say(rt, b"tableback: the table could not be written\n");
     }
 }
 
 // Is there a byte behind those that were read? A read that fails counts as one.
-fn goes_on() -> bool {
+fn goes_on(rt: &HostRuntime) -> bool {
     let mut byte = [0u8; 1];
-    let behind = input::read_file(STDIN_FILENO, &mut byte, 0);
-    if behind.failed {
+    let behind = input::read_input(rt, &mut byte);
+    if behind.failed.is_some() {
         return true;
     }
     behind.count != 0
@@ -58,28 +62,40 @@ fn room() -> [u8; NODES]
     [0u8; NODES]
 }
 
-fn read_nodes(columns: usize) {
+fn read_nodes(rt: &HostRuntime, columns: usize) {
     let mut nodes = room();
-    let read = input::read_input(&mut nodes);
-    if read.failed {
-        return say(b"tableback: standard input could not be read\n");
+    let read = input::read_input(rt, &mut nodes);
+    if read.failed.is_some() {
+        return say(rt, b"tableback: standard input could not be read\n");
     }
-    if goes_on() {
-        return say(b"tableback: the array has more than 266240 bytes\n");
+    if goes_on(rt) {
+        return say(rt, b"tableback: the array has more than 266240 bytes\n");
     }
     let count = read.count;
-    give_back(&nodes[..count], columns);
+    give_back(rt, &nodes[..count], columns);
 }
 
-fn main() {
-    if os::arg_count() != 2 {
-        return say(b"tableback: wanted is the number of columns: tableback COLUMNS\n");
+// Was the program started with an argument of this number? Its own name has the number 0.
+fn is_given(env: &impl Env, argument: usize) -> bool {
+    !matches!(env.arg(argument, &mut []), Err(FillError::NotPresent))
+}
+
+fn main(rt: HostRuntime) {
+    if !is_given(&rt, 1) || is_given(&rt, 2) {
+        return say(
+            &rt,
+            b"tableback: wanted is the number of columns: tableback COLUMNS\n",
+        );
     }
-    let mut word = io::buffer();
-    let length = os::arg(1, &mut word);
+    let mut word = [0u8; ARGUMENT];
+    // A longer argument counts as none that is a number.
+    let length = rt.arg(1, &mut word).unwrap_or(0);
     let columns = decimals::number_in(&word[..length]);
     if !columns.given {
-        return say(b"tableback: the number of columns is not a number in decimal\n");
+        return say(
+            &rt,
+            b"tableback: the number of columns is not a number in decimal\n",
+        );
     }
-    read_nodes(columns.number);
+    read_nodes(&rt, columns.number);
 }

@@ -3,25 +3,21 @@
 
 #![tactic(auto)]
 
-use libc::{STDERR_FILENO, STDOUT_FILENO};
+// Tells one line on standard error. Where that fails too, nobody is left to be told.
+fn say(rt: &impl Eprint, line: &str) {
+    let _ = eprintln!(rt; "tablecheck: {line}");
+}
 
-fn main() {
+fn main(rt: HostRuntime) {
     let mut bytes = [0u8; 1024];
-    let read = input::read_input(&mut bytes);
-    if read.failed {
-        io::write_all(
-            STDERR_FILENO,
-            b"tablecheck: standard input could not be read\n",
-        );
-        return;
+    let read = input::read_input(&rt, &mut bytes);
+    if read.failed.is_some() {
+        return say(&rt, "standard input could not be read");
     }
     let count = read.count;
     let mut text = [0u8; 256];
     let length = judging::judge(&bytes[..count], &mut text);
-    if !io::write_all(STDOUT_FILENO, &text[..length]) {
-        io::write_all(
-            STDERR_FILENO,
-            b"tablecheck: the verdict could not be written\n",
-        );
+    if rt.write_all(&text[..length]).is_err() {
+        say(&rt, "the verdict could not be written");
     }
 }

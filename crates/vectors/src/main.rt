@@ -3,13 +3,17 @@
 //
 // Numbers are decimal. Bytes are two lower-case hex digits each, and `-` is none of them. A situation by value is its
 // length and its six bytes. `compile` and `untable` are told how many bytes to lend, all of them 170, and their lines end in a sum
-// over the lent bytes after the call. A line that calls nothing of this is answered by `?`.
+// over the lent bytes after the call. A line that calls nothing of this is answered by `?`. A read or a write that fails ends the
+// program with its error.
 
 #![tactic(auto)]
 
 mod calls;
+mod printing;
 mod reading;
-mod writing;
+
+use std::io;
+use std::io::{Input, Read};
 
 // The most characters of a line, and the most lines.
 const LINE: usize = 12001;
@@ -17,22 +21,26 @@ const LINE: usize = 12001;
 const LINES: u64 = 1000000000;
 
 // Whether there was a line.
-fn run() -> bool {
+fn run<R: Read>(rt: &impl Print, source: &mut R) -> io::Result<bool> {
     let mut line = [0u8; LINE];
-    let n = reading::line(&mut line);
-    if n == 0 {
-        return false;
+    let read = reading::line(source, &mut line);
+    if let Some(error) = read.failed {
+        return Err(error);
     }
-    calls::call(&line[..n]);
-    true
+    let count = read.count;
+    if count == 0 {
+        return Ok(false);
+    }
+    calls::call(rt, &line[..count])?;
+    Ok(true)
 }
 
-fn main() {
-    let mut left = LINES;
-    while 0 < left {
-        if !run() {
-            return;
+fn main(rt: HostRuntime) -> io::Result<()> {
+    let mut source = rt.reader();
+    for _ in 0..LINES {
+        if !run(&rt, &mut source)? {
+            return Ok(());
         }
-        left -= 1;
     }
+    Ok(())
 }

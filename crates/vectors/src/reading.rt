@@ -1,47 +1,62 @@
 // What the words of a line stand for. Of a word that is malformed nothing is promised.
-ghost use Rattle.std.specs.Prelude.{◌<◌, ◌≤◌};
-ghost use Rattle.io.specs.Counts.{IsPrefixLen};
+ghost use Rattle.std.specs.Prelude.{◌≡◌, ◌<◌, ◌≤◌};
+ghost use Rattle.input.specs.Counts.{IsPrefixLen};
 
 use carmuspeno::CarmSituation;
-use libc::STDIN_FILENO;
+use input::Input;
+use std::io;
+use std::io::Read;
 use std::num::wrapping_add_u64;
 
 const LINE_FEED: u8 = 10;
 
 const SPACE: u8 = 32;
 
-#[derive(Clone, Copy)]
-enum Input {
-    Byte(u8),
-    End,
-}
-
-// The next byte of the input.
-fn next() -> Input {
+// The next byte of the input, or none where it ended.
+fn next<R: Read>(source: &mut R) -> io::Result<Option<u8>> {
     let mut byte = [0u8; 1];
-    if io::read_full(STDIN_FILENO, &mut byte) == 0 {
-        return Input::End;
+    let read = input::read_file(source, &mut byte, 0);
+    match read.failed {
+        Some(error) => Err(error),
+        None if read.count == 0 => Ok(None),
+        None => Ok(Some(byte[0])),
     }
-    Input::Byte(byte[0])
 }
 
-// Reads a line with its line feed, and says how many bytes it has: 0 where the input ended.
-pub fn line(out: &mut [u8]) -> usize
-    ensures { IsPrefixLen result out.new }
+// So many bytes, and no read failed.
+fn so_far(count: usize) -> Input
+    ensures { result.count ≡ count }
+{
+    Input {
+        count,
+        failed: None,
+    }
+}
+
+// Reads a line with its line feed, and says how many bytes it has: 0 where the input ended. A read that fails ends the line too.
+pub fn line<R: Read>(source: &mut R, out: &mut [u8]) -> Input
+    ensures { IsPrefixLen result.count out.new }
 {
     let most = out.len();
-    let mut n = 0;
-    while n < most {
-        let Input::Byte(byte) = next() else {
-            return n;
+    let mut count = 0;
+    while count < most {
+        let byte = match next(source) {
+            Ok(Some(byte)) => byte,
+            Ok(None) => return so_far(count),
+            Err(error) => {
+                return Input {
+                    count,
+                    failed: Some(error),
+                };
+            }
         };
-        out[n] = byte;
-        n += 1;
+        out[count] = byte;
+        count += 1;
         if byte == LINE_FEED {
-            return n;
+            return so_far(count);
         }
     }
-    n
+    so_far(count)
 }
 
 // Where the first word ends: at a space or at the line feed.

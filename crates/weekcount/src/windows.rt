@@ -2,11 +2,14 @@
 ghost use Rattle.std.specs.Prelude.{◌≡◌, ◌≤◌, true, not, length, if◌then◌else◌, ◌==◌};
 ghost use Rattle.weekcount.specs.Inside.{Falls};
 
-use crate::files::{VOICES, fail, say, voice_in};
+use crate::files::{VOICES, fail, open, say, voice_in};
 use batches::MOST_NOTICES;
 use counts::Counts;
-use libc::STDERR_FILENO;
 use refusals::Refusal;
+use std::io::{IsTerminal, Read};
+
+// How many bytes of the batch are read at once.
+const WINDOW: usize = 65536;
 
 // Every so many notices a line of progress is written.
 const STRIDE: usize = 100000;
@@ -74,7 +77,7 @@ fn count_voices(
 }
 
 // A line of progress for every so many notices, where somebody looks at standard error.
-fn progress(before: usize, after: usize) {
+fn progress(rt: &HostRuntime, before: usize, after: usize) {
     if MOST_NOTICES < before || MOST_NOTICES < after {
         return;
     }
@@ -82,12 +85,10 @@ fn progress(before: usize, after: usize) {
     if (MOST_NOTICES - before) / STRIDE == read / STRIDE {
         return;
     }
-    if libc::isatty(STDERR_FILENO) != 1 {
+    if !rt.stderr().is_terminal() {
         return;
     }
-    say(b"weekcount: ");
-    io::print_decimal(STDERR_FILENO, read as u64);
-    say(b" notices\n");
+    let _ = eprintln!(rt; "weekcount: {read} notices");
 }
 
 // A refusal whose place was counted from an offset on.
@@ -112,8 +113,9 @@ fn over(ended: bool, refusal: Refusal) -> bool
 }
 
 // One window: what is kept of the one before, and behind it as many bytes as there is room for or as the file has.
-fn turn(
-    file: i32,
+fn turn<R: Read>(
+    rt: &HostRuntime,
+    file: &mut R,
     path: &[u8],
     window: &mut [u8],
     tally: Tally,
@@ -125,8 +127,8 @@ fn turn(
     ensures { Falls tally.left result.ended result.left }
 {
     let read = input::read_file(file, window, tally.kept);
-    if read.failed {
-        fail(path);
+    if let Some(error) = read.failed {
+        fail(rt, path, error);
         return unread();
     }
     let count = read.count;
@@ -136,7 +138,7 @@ fn turn(
     let refusal = walked.refusal;
     let before = tally.weeks;
     let weeks = count_voices(before, &window[..length], store, ends, voices);
-    progress(tally.left, walked.left);
+    progress(rt, tally.left, walked.left);
     let kept = input::move_front(window, length, count);
     Tally {
         weeks,
@@ -150,17 +152,24 @@ fn turn(
 }
 
 // The batch in a file, counted for each voice. Every window but the last has a notice, so their number is bounded.
-pub fn count_batch(path: &[u8], store: &[u8], ends: &[usize], voices: usize) -> Tally {
-    let file = os::open_read(path);
-    if file < 0 {
-        fail(path);
-        return unread();
-    }
-    let mut window = io::large_buffer();
+pub fn count_batch(
+    rt: &HostRuntime,
+    path: &[u8],
+    store: &[u8],
+    ends: &[usize],
+    voices: usize,
+) -> Tally {
+    let mut file = match open(rt, path) {
+        Ok(file) => file,
+        Err(error) => {
+            fail(rt, path, error);
+            return unread();
+        }
+    };
+    let mut window = [0u8; WINDOW];
     let mut tally = start();
     while !tally.ended {
-        tally = turn(file, path, &mut window, tally, store, ends, voices);
+        tally = turn(rt, &mut file, path, &mut window, tally, store, ends, voices);
     }
-    libc::close(file);
     tally
 }

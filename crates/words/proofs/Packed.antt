@@ -1,7 +1,6 @@
 -- A word is put together from its bits (packed_bits), and a word that is put together has these bits (bit-packed).
 use Prim.Native.Nat.{ℕ, zero, suc, ◌+◌, ◌*◌, ◌/◌, ◌%◌, ◌^◌, ◌<◌}
 use mathlib.Core.Path.{◌≡◌, refl, ap, sym, ◌∙◌}
-use mathlib.Core.List.{List, [], ◌∷◌}
 use lib.ListN.{length, get_or}
 use native.Mathlib.Nat.{pow-suc, mul_comm, div-div-eq-div-mul, add-zero}
 use native.Mathlib.Omega.{arith}
