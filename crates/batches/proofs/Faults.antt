@@ -71,3 +71,6 @@ fault-none left at s h =
       short = ltb-false 288 (size s) t.2;
       whole = ltb-false (length s) (field_size s) t.3;
     }
+
+-- What `fault` returns, check by check.
+pub ruleset fault_laws = (fault_header, fault-tag, fault_week, fault-length, fault-value, fault-done)

@@ -36,6 +36,7 @@ pub struct Walked {
 }
 
 // Why the field that `rest` starts with is refused, if it is. It stands at the offset `at`, and `left` notices may still come.
+#[tactic(auto, using(crate::proofs::Faults::fault_laws))]
 pub fn fault(rest: &[u8], at: usize, left: usize) -> Refusal
     ensures { result ≡ fault left at rest.now }
 {

@@ -104,3 +104,6 @@ module _ (t : List ℕ) {f : TableRead} (e : f ≡ read_of t) where
             go : (s : Bool) → ltb (length lent) needed ≡ s → new ≡ written_of t lent
             go true k = room_writes_nothing (ltb-true (length lent) needed k)
             go false k = nodes_written (ltb-false (length lent) needed k)
+
+-- What `reply` returns.
+pub ruleset reply_laws = (reply-room, reply_accepts)

@@ -32,6 +32,7 @@ fn refuse(refusal: Refusal) -> Compiled
 }
 
 // What is replied of a table that was read: ROOM where its nodes do not fit.
+#[tactic(auto, using(crate::proofs::CompileReturns::reply_laws))]
 fn reply(room: usize, needed: usize, columns: usize, rows: usize) -> Compiled
     ensures { result ≡ reply_of room needed columns rows }
 {

@@ -101,3 +101,6 @@ answer_cut part l = go (has_default part)
     go : (b : Bool) → Silent ≡ default_answer (cond b (written (from_number (get_or part 3 0))) unwritten)
     go true = rw (get_or-eq_default part 0 {n = 3} l)
     go false = refl
+
+-- What `fault` returns, check by check.
+pub ruleset fault_laws = (fault-none, fault-short, fault-length, fault_cut, value-inside, fault-value, fault-clear)

@@ -32,6 +32,7 @@ pub fn size(part: &[u8]) -> usize
 }
 
 // What is wrong with the default at the front of a part.
+#[tactic(auto, using(crate::proofs::DefaultFields::fault_laws))]
 pub fn fault(part: &[u8]) -> Refusal
     ensures { result ≡ default_fault part.now }
 {

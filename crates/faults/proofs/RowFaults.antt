@@ -96,3 +96,6 @@ module _ (n at : ℕ) (row : List ℕ) (k : ℕ) (e : k ≡ first_above 4 (take 
   pub value_fault-none : {r : Refusal} → n ≤ k → get_or row (3 + n) 0 ≤ 3 → r ≡ none → r ≡ value_fault n at row
   unfolding value_fault
   value_fault-none h l q = rw (cell_is, le-ltb k n h, le-ltb 3 (get_or row (3 + n) 0) l) q
+
+-- What `row_fault` returns, check by check.
+pub ruleset row_fault_laws = (row_fault-short, row_fault-tag, row_fault-rows, row_fault-rest)

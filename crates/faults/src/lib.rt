@@ -88,6 +88,7 @@ fn length_fault(row: &[u8], n: usize, at: usize) -> Refusal
 }
 
 // What is wrong with the row that a part starts with, where so many rows may still come. It stands at an offset of the table.
+#[tactic(auto, using(crate::proofs::RowFaults::row_fault_laws))]
 pub fn row_fault(rows: &[u8], n: usize, at: usize, left: usize) -> Refusal
     ensures { result ≡ row_fault left (n % 8) (at % 1024) rows.now }
 {

@@ -45,3 +45,6 @@ module _ (fs : List Fact) (v : List ℕ) (at : ℕ) {left : ℕ} (from : left �
     pub present-is : 3 ≤ left → r ≡ truth_set (present s ∷ []) → May r (at + 3) ≡ held fs (present_at v at)
     unfolding held present_at may_hold
     present-is h w = rw (le-ltb (length v) (at + 3) (omega (arith, from)), two-after v at 1, w, f, e)
+
+-- What `present_at` returns.
+pub ruleset present_laws = (present_cut, present-is)

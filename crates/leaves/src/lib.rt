@@ -71,6 +71,7 @@ pub fn compared_at(voice: &[u8], notice: &[u8], at: usize, comparison: Compariso
 }
 
 // Whether the fact is present whose number follows the code at an offset of the voice.
+#[tactic(auto, using(crate::proofs::Comparisons::present_laws))]
 pub fn present_at(voice: &[u8], notice: &[u8], at: usize) -> Held
     ensures { result ≡ held (facts_in 32 notice.now) (present_at voice.now at) }
 {

@@ -74,9 +74,12 @@ pub raised_printed :
 unfolding raised_text
 raised_printed column answer v w x y = printed_then (printed_then (printed_then v w) x) y
 
-pub growth_yes_printed : (g : Growth) {b c : List ℕ} {at k : ℕ} → g.verdict ≡ 1 → Printed b at growth_yes c k → Printed b at (growth_line g) c k
+pub growth_line_yes : (g : Growth) → g.verdict ≡ 1 → growth_line g ≡ growth_yes
 unfolding growth_line
-growth_yes_printed g h v = rw (eq-eqb g.verdict 1 h) v
+growth_line_yes g h = rw (eq-eqb g.verdict 1 h)
+
+pub growth_yes_printed : (g : Growth) {b c : List ℕ} {at k : ℕ} → g.verdict ≡ 1 → Printed b at growth_yes c k → Printed b at (growth_line g) c k
+growth_yes_printed g h v = rw (growth_line_yes g h) v
 
 pub growth_no_printed :
     (g : Growth) {b c d : List ℕ} {at k m : ℕ} →

@@ -71,6 +71,7 @@ fn put_raised(text: &mut [u8], at: usize, column: usize, answer: u8) -> usize
 }
 
 // The growth check's reply: any verdict but a yes is a no.
+#[tactic(auto, using(crate::proofs::Printing::growth_line_yes))]
 pub fn put_growth(text: &mut [u8], at: usize, growth: Growth) -> usize
     ensures { Printed text.old at (growth_line growth) text.new result }
 {

@@ -202,3 +202,6 @@ module _ (profile : Profile) (n height : ℕ) where
 
       pub climb-behind : {r : ℕ} → r ≡ height + 1 - taken node → record { height = r; fault = f } ≡ climb profile n node height
       climb-behind g = rw (g, z) (climb-taken (profile.places + height) (omega arith) (omega arith) node not-refused).2
+
+-- The number with which each node is refused.
+pub ruleset fault_laws = (fault-turn, fault-column, fault_no_column, fault-meet, fault-join, fault_no_join, fault-negate, fault-constant, fault_foreign)

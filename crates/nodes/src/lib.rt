@@ -89,6 +89,7 @@ fn unless_below(less: usize, more: usize, number: u8) -> u8
 }
 
 // The number with which a node is refused, or 0: a push needs room, an operator one operand more than it leaves fewer.
+#[tactic(auto, using(crate::proofs::Climbing::fault_laws))]
 fn node_fault(node: Node, height: usize, columns: usize, places: usize, joins: bool) -> u8
     ensures { result ≡ (climb (record { places = places; joins = joins }) columns node height).fault }
 {

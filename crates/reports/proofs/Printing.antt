@@ -36,10 +36,13 @@ pub totals_printed :
 unfolding total_lines
 totals_printed q v w x y z = printed_then (printed_then (printed_then (printed_then v w) x) y) z
 
+pub number_line_none : (number n : ℕ) → n ≡ 0 → number_line number n ≡ []
+unfolding number_line
+number_line_none number n h = rw (eq-eqb n 0 h)
+
 module _ (number n : ℕ) {b : List ℕ} {at : ℕ} where
   pub number-none : n ≡ 0 → {c : List ℕ} {k : ℕ} → Printed b at [] c k → Printed b at (number_line number n) c k
-  unfolding number_line
-  number-none h v = rw (eq-eqb n 0 h) v
+  number-none h v = rw (number_line_none number n h) v
 
   pub number_printed :
       (n ≡ 0 → ⊥) →

@@ -34,6 +34,7 @@ fn put_totals(text: &mut [u8], at: usize, counts: Counts) -> usize
 }
 
 // How many were refused with a number, where any were.
+#[tactic(auto, using(crate::proofs::Printing::number_line_none))]
 fn put_number(text: &mut [u8], at: usize, number: usize, count: u64) -> usize
     ensures { Printed text.old at (number_line number count) text.new result }
 {

@@ -64,3 +64,6 @@ fault_of-long s q h = q ∙ (rw (lt-ltb 6 s.length h))
 pub fault_of_slice : (s : Situation) {r : Refusal} → s.length ≤ 6 → r ≡ fault (take s.length s.answers) → r ≡ fault_of s
 unfolding fault_of
 fault_of_slice s h e = rw (le-ltb 6 s.length h) e
+
+-- What `fault` returns, check by check.
+pub ruleset fault_laws = (fault-short, fault-long, fault_above, fault-none)

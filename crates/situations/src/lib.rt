@@ -27,6 +27,7 @@ pub struct Merged {
 }
 
 // What is wrong with a situation of these bytes.
+#[tactic(auto, using(crate::proofs::Faults::fault_laws))]
 pub fn fault(situation: &[u8]) -> Refusal
     ensures { result ≡ fault situation.now }
 {

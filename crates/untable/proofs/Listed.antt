@@ -42,3 +42,6 @@ module _ (nodes : List ℕ) (n : ℕ) {p : Planes} (e : p ≡ planes_of nodes n)
         new ≡ written_of (listed (in_words p.bury p.keep) n) r lent →
         new ≡ written_of (table_back nodes n) r lent
     listed-written r lent w = rw same at w
+
+-- What `untable` returns and writes.
+pub ruleset untable_laws = (untable-refused, refused_nothing, untable-listed, listed-written)

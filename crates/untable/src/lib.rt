@@ -17,6 +17,7 @@ ghost use Rattle.untable.specs.Meaning.{table_back, untable_of};
 use listing::Written;
 
 // Writes the table of an array's answers.
+#[tactic(auto, using(crate::proofs::Listed::untable_laws))]
 pub fn untable(nodes: &[u8], columns: usize, table: &mut [u8]) -> Written
     ensures reply { result ≡ untable_of nodes.now columns (length table.old) }
     ensures written { table.new ≡ written_of (table_back nodes.now columns) result table.old }

@@ -191,3 +191,6 @@ module _ (j : Answer) (cells : List ℕ) {old new : List ℕ} {at next : ℕ} (i
 
     pub cells-done : (next ≡ at → ⊥) → Wrote old at (row_nodes (row_with cells j)) new next
     cells-done z = parts_done no_cell z
+
+-- What `put_next_row` needs, and what it does with a silent row.
+pub ruleset next_row_laws = (row_silent, row_within, join-within)

@@ -94,6 +94,7 @@ fn put_row(nodes: &mut [u8], at: usize, cells: &[u8], outcome: u8) -> usize
 }
 
 // What a row adds to a table: nothing if its outcome is silent, else its nodes, and a join unless it is the first.
+#[tactic(auto, using(crate::proofs::Rows::next_row_laws))]
 fn put_next_row(nodes: &mut [u8], at: usize, cells: &[u8], outcome: u8) -> usize
     requires { (length cells.now ≤ 6) × Told outcome × (at + length (row_step (eqb at 0) (row_with cells.now (from_number outcome))) ≤ limit) }
     ensures { Wrote nodes.old at (row_step (eqb at 0) (row_with cells.now (from_number outcome))) nodes.new result }
