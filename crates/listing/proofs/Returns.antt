@@ -40,6 +40,9 @@ module _ (rows needed room : ℕ) {x : Refusal} where
     unfolding reply_of
     reply_accepts l i = rw (le-ltb 64 rows few, le-ltb room needed l, i)
 
+-- What `reply` returns.
+pub ruleset reply_laws = (reply-rows, reply-room, reply_accepts)
+
 reply-fits : (rows needed room : ℕ) → (reply_of rows needed room).refusal.number ≡ 0 → needed ≤ room
 unfolding reply_of
 reply-fits rows needed room = go (ltb 64 rows) (ltb room needed) refl

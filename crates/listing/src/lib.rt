@@ -125,6 +125,7 @@ fn count_rows(bury: &[u64; 64], keep: &[u64; 64], n: usize) -> usize
 }
 
 // What is replied of a table of so many rows and bytes.
+#[tactic(auto, using(crate::proofs::Returns::reply_laws))]
 fn reply(rows: usize, needed: usize, room: usize) -> Written
     ensures { result ≡ reply_of rows needed room }
 {
