@@ -5,24 +5,22 @@ use mathlib.Core.List.{List}
 use lib.Dec.{ltb, eqb}
 use lib.ListN.{length, drop, get_or}
 use native.Mathlib.Omega.{arith}
-use Rattle.refusals.specs.Meaning.{none, refused, after, SHORT, START, TAG, LEN, VALUE, ROWS}
-use Rattle.refusals.specs.declared.Refusal.{Refusal}
+use Rattle.refusals.specs.Meaning.{Numbers, none, refused, after, SHORT, START, TAG, LEN, VALUE, ROWS}
 use Rattle.fields.specs.Meaning.{short_header, short_value, first_above}
 use Rattle.situations.specs.Meaning.{outside}
 use Rattle.rows.specs.Meaning.{row_width}
-use Rattle.tables.specs.declared.TableRead.{TableRead}
 use Rattle.defaults.specs.Meaning.{has_default, default_fault}
 use Rattle.faults.specs.Meaning.{columns_of, other_tag, row_too_many, other_length, cells_at, value_fault, columns_fault, row_fault}
-use Rattle.tables.specs.Meaning.{behind_columns, rows_start, rows_part, refuse_table, accept_table, rows_from, fields_of}
+use Rattle.tables.specs.Meaning.{TableRead, behind_columns, rows_start, rows_part, refuse_table, accept_table, rows_from, fields_of}
 
-record Small (r : Refusal) : Type 0 where
+record Small (r : Numbers) : Type 0 where
   below : r.number ≤ 6
 
-small_either : (b : Bool) {p q : Refusal} → Small p → Small q → Small (cond b p q)
+small_either : (b : Bool) {p q : Numbers} → Small p → Small q → Small (cond b p q)
 small_either true h k = h
 small_either false h k = k
 
-small : (b : Bool) (k p : ℕ) {r : Refusal} → k ≤ 6 → Small r → Small (cond b (refused k p) r)
+small : (b : Bool) (k p : ℕ) {r : Numbers} → k ≤ 6 → Small r → Small (cond b (refused k p) r)
 small b k p l h = small_either b (record { below = l }) h
 
 small-none : Small none
@@ -64,7 +62,7 @@ small_read : (b : Bool) (x y : TableRead) → Small x.refusal → Small y.refusa
 small_read true x y h k = h
 small_read false x y h k = k
 
-after_small : (r : Refusal) (x : TableRead) → Small r → Small x.refusal → Small (after r refuse_table x).refusal
+after_small : (r : Numbers) (x : TableRead) → Small r → Small x.refusal → Small (after r refuse_table x).refusal
 after_small r x h k = small_read (eqb r.number 0) x (refuse_table r) k h
 
 rows_from-small : (left n at : ℕ) (rows : List ℕ) → Small (rows_from left n at rows).refusal

@@ -5,22 +5,21 @@ use mathlib.Core.List.{List, [], ◌∷◌, ◌++◌, append_assoc}
 use lib.ListN.{length, take, length-append}
 use borrow.Author.Tests.{lt-ltb, le-ltb, eq-eqb, ne_eqb}
 use native.Mathlib.Omega.{arith}
-use Rattle.refusals.specs.Meaning.{refused, SHORT, TAG, LEN, VALUE}
-use Rattle.refusals.specs.declared.Refusal.{Refusal}
+use Rattle.refusals.specs.Meaning.{Numbers, refused, SHORT, TAG, LEN, VALUE}
 use Rattle.fields.specs.Meaning.{field, tag, two}
 use Rattle.rows.specs.Meaning.{Row, row_fields}
 use Rattle.faults.specs.Meaning.{columns_fault, row_fault}
 use Rattle.defaults.specs.Meaning.{Default, unwritten, written, default_field, default_fault}
 use Rattle.tables.specs.Meaning.{Table, WellFormed, table_bytes, refuse_table, rows_from, fields_of, read_of}
 use Rattle.tables.proofs.RowsRead.{rows_from-stop}
-use Rattle.tables.proofs.ReadReturns.{read_of_fields}
+use Rattle.tables.proofs.ReadReturns.{read_of_stop}
 use Rattle.accepting.proofs.DefaultEncoding.{Apart}
 use Rattle.accepting.proofs.FieldsEncoding.{columns-pass, fields_written}
 use Rattle.accepting.proofs.RowsEncoding.{Wide, write_past}
 
 -- what the fields are refused with is what reading is refused with
-fields_refused : (t : List ℕ) (r : Refusal) → (r.number ≡ 0 → ⊥) → fields_of t ≡ refuse_table r → read_of t ≡ refuse_table r
-fields_refused t r loud e = sym (read_of_fields t {f = refuse_table r} (sym e) loud refl)
+fields_refused : (t : List ℕ) (r : Numbers) → (r.number ≡ 0 → ⊥) → fields_of t ≡ refuse_table r → read_of t ≡ refuse_table r
+fields_refused t r loud e = sym (read_of_stop t {f = refuse_table r} (sym e) loud)
 
 -- another tag than a row's, where rows are read
 other_tag :
@@ -68,7 +67,7 @@ late_tag t w begun rest whole other =
 -- a faulty default directly behind the columns
 module _ (n : ℕ) (some : 1 ≤ n) (few : n ≤ 6) where
   default-refused :
-      (part : List ℕ) (r : Refusal) →
+      (part : List ℕ) (r : Numbers) →
       (r.number ≡ 0 → ⊥) →
       default_fault part ≡ r →
       read_of (field 1 (n ∷ []) ++ part) ≡ refuse_table r

@@ -7,8 +7,7 @@ use lib.Dec.{T, eqb}
 use lib.ListN.{length}
 use borrow.Author.Tests.{eqb-true, eqb-false}
 use native.Mathlib.Omega.{arith}
-use Rattle.refusals.specs.Meaning.{none, first_refusal, OVERLAP}
-use Rattle.refusals.specs.declared.Refusal.{Refusal}
+use Rattle.refusals.specs.Meaning.{Numbers, none, first_refusal, OVERLAP}
 use Rattle.refusals.proofs.First.{first-none, first-all, first_found}
 use Rattle.answers.specs.Meaning.{number}
 use Rattle.answers.specs.declared.Answer.{Answer}
@@ -84,10 +83,10 @@ module _ (bad : ℕ → ℕ → Bool) (rows : ℕ) where
       let w = first_found (overlap_of bad) rows h in
       let later = w.0 in
       let f : (first_refusal (pair_fault bad later) later).number ≡ 0 → ⊥ =
-      λ e. h (ap (λ (x : Refusal). x.number) w.1.same ∙ e) in
+      λ e. h (ap (λ (x : Numbers). x.number) w.1.same ∙ e) in
       let v = first_found (pair_fault bad later) later f in
       let earlier = v.0 in
-      let u = pair_bad bad later earlier (λ e. f (ap (λ (x : Refusal). x.number) v.1.same ∙ e)) in (
+      let u = pair_bad bad later earlier (λ e. f (ap (λ (x : Numbers). x.number) v.1.same ∙ e)) in (
         later,
         earlier,
         record {

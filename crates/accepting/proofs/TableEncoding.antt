@@ -10,15 +10,13 @@ use lib.ListN.{length, length-append}
 use borrow.Author.Tests.{eqb-true, eqb-false}
 use native.Mathlib.Nat.{zero-add, mul-le-mul}
 use native.Mathlib.Omega.{arith}
-use Rattle.refusals.specs.Meaning.{after, OVERLAP}
-use Rattle.refusals.specs.declared.Refusal.{Refusal}
+use Rattle.refusals.specs.Meaning.{Numbers, after, OVERLAP}
 use Rattle.fields.specs.Meaning.{field}
 use Rattle.rows.specs.Meaning.{row, row_fields, row_width, row_bytes, row_of, rows_in, first_overlap}
-use Rattle.tables.specs.declared.TableRead.{TableRead}
 use Rattle.faults.specs.Meaning.{columns_of}
 use Rattle.defaults.specs.Meaning.{default_field, default_in}
-use Rattle.tables.specs.Meaning.{Table, WellFormed, Consistent, FirstDisagreement, table_bytes, behind_columns, rows_start, rows_part, table_of, refuse_table, accept_table, fields_of, read_of}
-use Rattle.tables.proofs.ReadReturns.{read_of-overlap, read_of_accepts}
+use Rattle.tables.specs.Meaning.{TableRead, Table, WellFormed, Consistent, FirstDisagreement, table_bytes, behind_columns, rows_start, rows_part, table_of, refuse_table, accept_table, fields_of, read_of}
+use Rattle.tables.proofs.ReadReturns.{read_of_disagreement, read_of_pass}
 use Rattle.tables.proofs.Accepted.{FieldsRead, fields_read, read_accepted}
 use Rattle.accepting.proofs.RowsIn.{rows_in-length, rows_in-row}
 use Rattle.accepting.proofs.RowsEncoding.{Wide, row_fields-length, row_fields_apart, write_rows, Encoded}
@@ -102,7 +100,7 @@ write_read t w c =
     let b = table_bytes t in
     let sound = fields_sound t w in
     let clear = consistent_clear b (rows-wide b (fields_read b sound)) (rw (write_table t w) c) in
-    sym (read_of_accepts b refl sound (columns_of b) (rows_part b) refl refl refl clear) ∙ write_fields t w
+    sym (read_of_pass b refl sound clear) ∙ write_fields t w
 
 -- and what is accepted is the bytes of the well-formed, consistent table that is read
 module _ (t : List ℕ) (h : (read_of t).refusal.number ≡ 0) where
@@ -118,7 +116,7 @@ module _ (t : List ℕ) (h : (read_of t).refusal.number ≡ 0) where
 
 -- what is refused is refused by the fields, or it is the first pair
 read_split :
-    (check : Refusal) (f : TableRead) →
+    (check : Numbers) (f : TableRead) →
     ((check.number ≡ 0) × (after check refuse_table f ≡ f)) ⊎ ((check.number ≡ 0 → ⊥) × (after check refuse_table f ≡ refuse_table check))
 read_split check f = go (eqb check.number 0) refl
   where
@@ -173,5 +171,5 @@ write_overlap t w h =
     λ e. h (rw (write_table t w) at (clear_consistent b wide e)) in
     let v = overlap-first b wide bad in
     let reply : refuse_table (first_overlap (columns_of b) (rows_part b)) ≡ read_of b =
-    read_of-overlap b refl sound (columns_of b) (rows_part b) refl refl refl bad refl in
-    ap (λ (x : TableRead). x.refusal.number) (sym reply) ∙ ap (λ (x : Refusal). x.number) v.2
+    read_of_disagreement b refl sound bad in
+    ap (λ (x : TableRead). x.refusal.number) (sym reply) ∙ ap (λ (x : Numbers). x.number) v.2

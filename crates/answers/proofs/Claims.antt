@@ -3,11 +3,10 @@ use Prim.Native.Nat.{ℕ, zero, suc, ◌+◌, ◌≤◌, ◌%◌}
 use mathlib.Core.Path.{◌≡◌, refl}
 use lib.Dec.{eqb}
 use lib.Bits.{bit_and, bit_or}
-use borrow.Author.Tests.{eq-eqb, ne_eqb}
 use native.Mathlib.Omega.{arith}
 use Rattle.answers.specs.declared.Answer.{Answer}
 use Rattle.answers.specs.declared.Answer.TheVariants.{Clash}
-use Rattle.answers.specs.Meaning.{number, from_number, contained, turn, meet, join, truth_meet, truth_join, replace}
+use Rattle.answers.specs.Meaning.{number, from_number, contained, turn, meet, join, truth_meet, truth_join}
 use Rattle.answers.proofs.Every.{each, all2}
 
 pub number_from : (a : Answer) → from_number (number a) ≡ a
@@ -49,11 +48,3 @@ module _ (p q : Answer) {x y : ℕ} (e : x ≡ number p) (f : y ≡ number q) wh
 
     pub truth_join_bits : {r : Answer} → r ≡ from_number (bit_or (bit_and (bit_or u v) 2) (bit_and (bit_and x y) 1)) → r ≡ truth_join p q
     truth_join_bits g = rw (g, e, f, i, j) (all2 (λ p q. from_number (bit_or (bit_and (bit_or (number p) (number q)) 2) (bit_and (bit_and (number p) (number q)) 1)) ≡ truth_join p q) (search refl) p q)
-
--- x in p is replaced where the numbers are equal
-module _ (x p q : Answer) {m k : ℕ} (e : m ≡ number p) (f : k ≡ number x) where
-  pub replace-found : m ≡ k → q ≡ replace x p q
-  replace-found h = rw (← e, ← f, eq-eqb m k h)
-
-  pub replace-left : (m ≡ k → ⊥) → p ≡ replace x p q
-  replace-left h = rw (← e, ← f, ne_eqb m k h)

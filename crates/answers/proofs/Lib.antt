@@ -1,3 +1,4 @@
 pub mod Every
 pub mod Claims
 pub mod Laws
+pub mod Cases

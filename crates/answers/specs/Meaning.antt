@@ -1,9 +1,9 @@
 -- The four answers and what the operators make of them.
-use Rattle.std.specs.Prelude.{ℕ, zero, suc, Bool, true, false, cond, eqb}
-use Rattle.refusals.specs.Meaning.{none, refused}
+use Rattle.std.specs.Prelude.{ℕ, zero, suc, Bool, true, false, cond, eqb, Result}
+use Rattle.refusals.specs.Meaning.{Numbers, none, refused, replied}
+use Rattle.refusals.specs.declared.Refusal.{Refusal}
 use Rattle.answers.specs.declared.Answer.{Answer}
 use Rattle.answers.specs.declared.Answer.TheVariants.{Silent, Bury, Keep, Clash}
-use Rattle.answers.specs.declared.Reply.{Reply}
 use Rattle.answers.specs.declared.operators.One.{One}
 use Rattle.answers.specs.declared.operators.One.TheVariants.{Negate, Turn, Floor, Ceiling}
 use Rattle.answers.specs.declared.operators.Two.{Two}
@@ -177,9 +177,20 @@ apply_two Guard = guard
 apply_two Priority = priority
 apply_two (Replace x) = replace x
 
--- "Success is 0 with its result .. A refusal returns number, place and second number, answer silent."
+-- What a call that answers replies: "Success is 0 with its result .. A refusal returns number, place and second number, answer silent."
+pub record Reply : Type 0 where
+  pub refusal : Numbers
+  pub answer : Answer
+
 abbrev pub succeed : Answer → Reply
 succeed a = record { refusal = none; answer = a }
 
+abbrev pub refuse_answer : Numbers → Reply
+refuse_answer n = record { refusal = n; answer = Silent }
+
 abbrev pub refuse : ℕ → ℕ → Reply
-refuse number place = record { refusal = refused number place; answer = Silent }
+refuse number place = refuse_answer (refused number place)
+
+-- The same of a result.
+abbrev pub answered : Result Answer Refusal → Reply
+answered = replied succeed refuse_answer

@@ -9,44 +9,34 @@ ghost use Rattle.answers.specs.Meaning.{number, from_number, contained};
 
 pub mod operators;
 
-use refusals::Refusal;
-
-#[derive(Clone, Copy)]
+#[derive(Clone, Copy, Debug, PartialEq, Eq)]
 pub enum Answer {
-    Silent,
-    Bury,
-    Keep,
-    Clash,
-}
-
-// What a call that answers replies: silent in a refusal.
-#[derive(Clone, Copy)]
-pub struct Reply {
-    pub refusal: Refusal,
-    pub answer: Answer,
+    Silent = 0,
+    Bury = 1,
+    Keep = 2,
+    Clash = 3,
 }
 
 // The document's number of an answer.
-pub fn number(a: Answer) -> u8
-    ensures { result ≡ number a }
-{
-    match a {
-        Answer::Silent => 0,
-        Answer::Bury => 1,
-        Answer::Keep => 2,
-        Answer::Clash => 3,
+impl From<Answer> for u8 {
+    ghost from_gives = { λ a n. n ≡ number a };
+
+    fn from(a: Answer) -> u8 {
+        a as u8
     }
 }
 
 // The answer with this number. Every caller has made sure that there is one; above 3 it is clash.
-pub fn from_number(n: u8) -> Answer
-    ensures { result ≡ from_number n }
-{
-    match n {
-        0 => Answer::Silent,
-        1 => Answer::Bury,
-        2 => Answer::Keep,
-        _ => Answer::Clash,
+impl From<u8> for Answer {
+    ghost from_gives = { λ n a. a ≡ from_number n };
+
+    fn from(n: u8) -> Answer {
+        match n {
+            0 => Answer::Silent,
+            1 => Answer::Bury,
+            2 => Answer::Keep,
+            _ => Answer::Clash,
+        }
     }
 }
 
@@ -55,5 +45,5 @@ pub fn contained(p: Answer, q: Answer) -> bool
     ensures { result ≡ contained p q }
 {
     // an answer is its claims, bury 1 and keep 2: p is in q when p has no claim that q lacks
-    number(p) & number(q) == number(p)
+    u8::from(p) & u8::from(q) == u8::from(p)
 }

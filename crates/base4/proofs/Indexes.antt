@@ -1,11 +1,13 @@
 -- The number of a situation, read answer by answer.
-use Prim.Native.Nat.{ℕ, suc, ◌+◌, ◌-◌, ◌*◌, ◌≤◌, ◌<◌}
+use Prim.Native.Nat.{ℕ, suc, min, ◌+◌, ◌-◌, ◌*◌, ◌≤◌, ◌<◌}
 use mathlib.Core.Path.{◌≡◌, refl, ap, ◌∙◌}
-use mathlib.Core.Logic.{⊎_elim}
 use mathlib.Core.List.{List}
+use mathlib.Core.Bool.{Bool, true, false}
+use lib.Dec.{ltb}
+use borrow.Author.Tests.{ltb-true, ltb-false}
 use lib.ListN.{length, get_or, take, drop_of_length-le}
 use lib.Seq.{drop-cons, take-nil}
-use native.Mathlib.Nat.{pow-suc, eq-or-lt_of_le}
+use native.Mathlib.Nat.{pow-suc}
 use native.Mathlib.Numerals.{add-one}
 use native.Mathlib.Omega.{arith}
 use Rattle.answers.specs.Meaning.{number, from_number}
@@ -26,16 +28,17 @@ module _ (s : List ℕ) (w i : ℕ) (x : Indexing s w i) where
   indexing_sum a l = omega (arith, x.small, power_small i x.counted)
 
   pub indexing_more :
-      {a : ℕ} {answer : Answer} →
-      i < length s →
-      (i ≡ 6 → ⊥) →
+      {a m : ℕ} {answer : Answer} →
+      m ≡ min (length s) 6 →
+      i < m →
       answer ≡ from_number (get_or s i 0) →
       a ≡ number answer →
       Indexing s (w * 4 + a) (i + 1)
   unfolding index_onto
-  indexing_more {a} l h q p =
+  indexing_more {a} k h q p =
       let e : a ≡ number (from_number (get_or s i 0)) = p ∙ ap number q in
-      let few : i < 6 = below i x.counted h in
+      let l : i < length s = omega (arith, k, h) in
+      let few : i < 6 = omega (arith, k, h) in
       let left : 6 - i ≡ suc (6 - suc i) = omega arith in
       let small : a ≤ 3 = rw e (number_small (from_number (get_or s i 0))) in
       record {
@@ -44,14 +47,14 @@ module _ (s : List ℕ) (w i : ℕ) (x : Indexing s w i) where
         small = rw add-one (omega (arith, pow-suc 4 i, x.small));
         rest = rw (add-one, e) (rw (left, drop-cons s i 0 l) at x.rest);
       }
+
+  pub indexing_all : {m : ℕ} → m ≡ min (length s) 6 → m ≤ i → w ≡ index (answers_of (take 6 s))
+  unfolding index_onto
+  indexing_all k l = go (ltb i (length s)) refl
     where
-      below : (i : ℕ) → i ≤ 6 → (i ≡ 6 → ⊥) → i < 6
-      below i l h = ⊎_elim (λ e. absurd (h e)) (λ q. q) (eq-or-lt_of_le {n = i} {m = 6} l)
-
-  pub indexing_six : i ≡ 6 → w ≡ index (answers_of (take 6 s))
-  unfolding index_onto
-  indexing_six e = rw e at x.rest
-
-  pub indexing_all : length s ≤ i → w ≡ index (answers_of (take 6 s))
-  unfolding index_onto
-  indexing_all l = rw (drop_of_length-le s {i = i} l, take-nil (6 - i)) at x.rest
+      go : (t : Bool) → ltb i (length s) ≡ t → w ≡ index (answers_of (take 6 s))
+      go true e =
+          let m = ltb-true i (length s) e in
+          let six : i ≡ 6 = omega (arith, k, l, m, x.counted) in
+          rw six at x.rest
+      go false e = rw (drop_of_length-le s {i = i} (ltb-false i (length s) e), take-nil (6 - i)) at x.rest

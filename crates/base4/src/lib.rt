@@ -9,6 +9,7 @@ ghost use Rattle.answers.specs.Meaning.{number};
 ghost use Rattle.answers.specs.declared.Answer.TheVariants.{Silent};
 ghost use Rattle.situations.specs.Meaning.{answers_of, weight, digit, index, situation_at, by_value};
 
+use answers::Answer;
 use situations::Situation;
 
 // The weight of a digit, which is also how many situations of e columns there are; 0 above 6.
@@ -49,10 +50,8 @@ pub fn situation_at(n: usize, w: usize) -> Situation
     ensures { result ≡ by_value (situation_at n w) }
 {
     let mut answers = [0u8; 6];
-    let mut i = 0;
-    while i < 6 {
+    for i in 0..6 {
         answers[i] = column(n, w, i);
-        i += 1;
     }
     Situation { length: n, answers }
 }
@@ -62,14 +61,9 @@ pub fn index(situation: &[u8]) -> usize
     ensures { result ≡ index (answers_of (take 6 situation.now)) }
 {
     let mut w = 0;
-    let mut i = 0;
-    while i < situation.len() {
-        if i == 6 {
-            return w;
-        }
-        let answer = answers::number(answers::from_number(situation[i]));
+    for i in 0..situation.len().min(6) {
+        let answer = u8::from(Answer::from(situation[i]));
         w = w * 4 + answer as usize;
-        i += 1;
     }
     w
 }

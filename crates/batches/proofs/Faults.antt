@@ -7,37 +7,36 @@ use native.Mathlib.Omega.{arith}
 use lib.Dec.{ltb, eqb}
 use lib.ListN.{length}
 use borrow.Author.Tests.{lt-ltb, le-ltb, ltb-false, eqb-true, eqb-false, eq-eqb, ne_eqb}
-use Rattle.refusals.specs.declared.Refusal.{Refusal}
-use Rattle.refusals.specs.Meaning.{none, refused, SHORT, TAG, LEN, WEEK}
+use Rattle.refusals.specs.Meaning.{Numbers, none, refused, SHORT, TAG, LEN, WEEK}
 use Rattle.fields.specs.Meaning.{tag, size, short_header, short_value}
 use Rattle.batches.specs.Meaning.{field_size, fault}
 
 module _ (left at : ℕ) (s : List ℕ) where
-  pub fault_header : {b : Bool} {r : Refusal} → b ≡ short_header s → b ≡ true → r ≡ refused SHORT at → r ≡ fault left at s
+  pub fault_header : {b : Bool} {r : Numbers} → b ≡ short_header s → b ≡ true → r ≡ refused SHORT at → r ≡ fault left at s
   unfolding fault
   fault_header e h w = w ∙ rw (← e, h)
 
   module _ {b : Bool} (e : b ≡ short_header s) (h : b ≡ false) {t : ℕ} (f : t ≡ tag s) where
-    pub fault-tag : {r : Refusal} → (t ≡ 17 → ⊥) → r ≡ refused TAG at → r ≡ fault left at s
+    pub fault-tag : {r : Numbers} → (t ≡ 17 → ⊥) → r ≡ refused TAG at → r ≡ fault left at s
     unfolding fault
     fault-tag i w = w ∙ rw (← e, h, ← f, ne_eqb t 17 i)
 
     module _ (i : t ≡ 17) where
-      pub fault_week : {r : Refusal} → left ≡ 0 → r ≡ refused WEEK at → r ≡ fault left at s
+      pub fault_week : {r : Numbers} → left ≡ 0 → r ≡ refused WEEK at → r ≡ fault left at s
       unfolding fault
       fault_week l w = w ∙ rw (← e, h, ← f, eq-eqb t 17 i, eq-eqb left 0 l)
 
       module _ (l : left ≡ 0 → ⊥) {n : ℕ} (g : n ≡ size s) where
-        pub fault-length : {r : Refusal} → 288 < n → r ≡ refused LEN at → r ≡ fault left at s
+        pub fault-length : {r : Numbers} → 288 < n → r ≡ refused LEN at → r ≡ fault left at s
         unfolding fault
         fault-length k w = w ∙ rw (← e, h, ← f, eq-eqb t 17 i, ne_eqb left 0 l, ← g, lt-ltb 288 n k)
 
         module _ (k : n ≤ 288) {b' : Bool} (e' : b' ≡ short_value n s) where
-          pub fault-value : {r : Refusal} → b' ≡ true → r ≡ refused SHORT at → r ≡ fault left at s
+          pub fault-value : {r : Numbers} → b' ≡ true → r ≡ refused SHORT at → r ≡ fault left at s
           unfolding fault
           fault-value h' w = w ∙ rw (← e, h, ← f, eq-eqb t 17 i, ne_eqb left 0 l, ← g, le-ltb 288 n k, ← e', h')
 
-          pub fault-done : {r : Refusal} → b' ≡ false → r ≡ none → r ≡ fault left at s
+          pub fault-done : {r : Numbers} → b' ≡ false → r ≡ none → r ≡ fault left at s
           unfolding fault
           fault-done h' w = w ∙ rw (← e, h, ← f, eq-eqb t 17 i, ne_eqb left 0 l, ← g, le-ltb 288 n k, ← e', h')
 

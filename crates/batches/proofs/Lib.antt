@@ -1,3 +1,4 @@
 pub mod Faults
 pub mod Reading
 pub mod Walks
+pub mod Apart

@@ -8,8 +8,7 @@ use native.Mathlib.Omega.{arith}
 use lib.Dec.{eqb}
 use lib.ListN.{length, take, drop, length-drop}
 use lib.Seq.{drop-drop}
-use Rattle.refusals.specs.declared.Refusal.{Refusal}
-use Rattle.refusals.specs.Meaning.{none}
+use Rattle.refusals.specs.Meaning.{Numbers, none}
 use Rattle.fields.specs.Meaning.{size}
 use Rattle.fields.proofs.Rests.{rest-is}
 use Rattle.batches.specs.Meaning.{Part, first_notice, field_size, behind, fault, due, stopped, followed, read_rest, walked_by, walk_of}
@@ -22,15 +21,12 @@ walked_followed left n p =
     let less : left - suc (length p.notices) ≡ left - 1 - length p.notices = omega arith in
     ap (λ k. record { refusal = p.refusal; length = p.end; left = k }) less
 
-walked_stopped : (left at : ℕ) (r : Refusal) → record { refusal = r; length = at; left = left } ≡ walked_by left (stopped at r)
+walked_stopped : (left at : ℕ) (r : Numbers) → record { refusal = r; length = at; left = left } ≡ walked_by left (stopped at r)
 walked_stopped left at r = let same : left ≡ left - 0 = omega arith in ap (λ k. record { refusal = r; length = at; left = k }) same
 
 -- a field without a fault is one of those that may still come
-pub walk-room : (left at : ℕ) (s : List ℕ) {r : Refusal} → r ≡ fault left at s → r.number ≡ 0 → 1 ≤ left
+pub walk-room : (left at : ℕ) (s : List ℕ) {r : Numbers} → r ≡ fault left at s → r.number ≡ 0 → 1 ≤ left
 walk-room left at s f k = (fault-none left at s (rw (← f) k)).room
-
-pub walk_starts : (ended : Bool) (part : List ℕ) (left : ℕ) → Walking ended part left left 0
-walk_starts ended part left = record { inside = omega arith; rest = refl }
 
 module _ (ended : Bool) (part : List ℕ) (all : ℕ) {left passed : ℕ} (w : Walking ended part all left passed) where
   abbrev s : List ℕ
@@ -41,10 +37,10 @@ module _ (ended : Bool) (part : List ℕ) (all : ℕ) {left passed : ℕ} (w : W
     judged h = rw length-drop (sym e ∙ h)
 
     -- nothing more to judge
-    pub walk_ends : d ≡ false → {r : Refusal} → r ≡ none → record { refusal = r; length = passed; left = left } ≡ walk_of ended all part
+    pub walk_ends : d ≡ false → {r : Numbers} → r ≡ none → record { refusal = r; length = passed; left = left } ≡ walk_of ended all part
     walk_ends h q = rw q (walked_stopped left passed none ∙ sym (ap (walked_by left) (read_left ended passed s left (judged h))) ∙ w.rest)
 
-    module _ (h : d ≡ true) {r : Refusal} (f : r ≡ fault left passed (take (length part - passed) (drop passed part))) where
+    module _ (h : d ≡ true) {r : Numbers} (f : r ≡ fault left passed (take (length part - passed) (drop passed part))) where
       fault-is : r ≡ fault left passed s
       fault-is = f ∙ ap (fault left passed) (rest-is passed part)
 
@@ -62,31 +58,18 @@ module _ (ended : Bool) (part : List ℕ) (all : ℕ) {left passed : ℕ} (w : W
         sound : Sound left s
         sound = fault-none left passed s (rw (← fault-is) k)
 
-        pub walk_header : length part < 18446744073709551616 → passed + 3 < 18446744073709551616
-        walk_header short =
-            let whole = sound.whole in
-            let i = w.inside in
-            let long : length s ≡ length part - passed = length-drop passed part in
-            omega arith
-
         module _ {n : ℕ} (g : n ≡ size (take (length part - passed) (drop passed part))) where
-          sized : passed + 3 + n ≡ passed + field_size s
+          sized : passed + (3 + n) ≡ passed + field_size s
           sized = let z : n ≡ size s = g ∙ ap size (rest-is passed part) in omega arith
 
-          within : passed + 3 + n ≤ length part
+          within : passed + (3 + n) ≤ length part
           within =
               let whole = sound.whole in
               let i = w.inside in
               let long : length s ≡ length part - passed = length-drop passed part in
               omega (arith, sized)
 
-          pub walk_field : length part < 18446744073709551616 → passed + 3 + n < 18446744073709551616
-          walk_field short = omega (arith, within)
-
-          pub walk_less : length part - (passed + 3 + n) < length part - passed
-          walk_less = omega (arith, within)
-
-          pub walk_more : Walking ended part all (left - 1) (passed + 3 + n)
+          pub walk_more : Walking ended part all (left - 1) (passed + (3 + n))
           walk_more =
               record {
                 inside = within;

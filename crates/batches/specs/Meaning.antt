@@ -1,9 +1,9 @@
 -- Batches: how their bytes are read, and the lists of notices that they encode.
-use Rattle.std.specs.Prelude.{ℕ, zero, suc, ◌+◌, ◌-◌, ◌≤◌, Bool, true, cond, not, List, [], ◌∷◌, ◌++◌, ltb, leb, eqb, length, take, drop}
+use Rattle.std.specs.Prelude.{ℕ, zero, suc, ◌+◌, ◌-◌, ◌≤◌, Bool, true, cond, not, List, [], ◌∷◌, ◌++◌, ltb, leb, eqb, length, take, drop, Option, Some, None}
+use Rattle.refusals.specs.Meaning.{Numbers, none, refused, after, numbers, SHORT, TAG, LEN, WEEK}
 use Rattle.refusals.specs.declared.Refusal.{Refusal}
-use Rattle.refusals.specs.Meaning.{none, refused, after, SHORT, TAG, LEN, WEEK}
 use Rattle.fields.specs.Meaning.{Bytes, field, tag, size, short_header, short_value}
-use Rattle.batches.specs.declared.Walked.{Walked}
+use Rattle.batches.specs.declared.Walked as code
 
 -- "A batch holds at most 1,000,000 notices."
 abbrev pub MOST : ℕ
@@ -22,7 +22,7 @@ behind s = drop (field_size s) s
 
 -- "Refusals, per field in order: SHORT header, TAG, 28 WEEK for a notice too many, LEN for a length above 288, SHORT value; each
 -- with the field's offset." `left` more notices are allowed.
-unfoldable pub fault : ℕ → ℕ → List ℕ → Refusal
+unfoldable pub fault : ℕ → ℕ → List ℕ → Numbers
 fault left at s =
     cond (short_header s) (refused SHORT at)
     (cond (eqb (tag s) 17)
@@ -35,10 +35,10 @@ fault left at s =
 -- What reading gives: the notices read, why it stopped if a field was refused, and the offset where it did, or ended.
 pub record Part : Type 0 where
   pub notices : List (List ℕ)
-  pub refusal : Refusal
+  pub refusal : Numbers
   pub end : ℕ
 
-abbrev pub stopped : ℕ → Refusal → Part
+abbrev pub stopped : ℕ → Numbers → Part
 stopped at r = record { notices = []; refusal = r; end = at }
 
 abbrev pub followed : List ℕ → Part → Part
@@ -62,12 +62,26 @@ read_rest ended (suc left) at s =
 abbrev pub read_batch : List ℕ → Part
 read_batch s = read_rest true MOST 0 s
 
--- What is said of a part of a batch that was gone through: how many bytes the fields read take, and how many notices may still come.
+-- What is said of a part of a batch that was gone through: why it stopped if a field was refused, how many bytes the fields read
+-- take, and how many notices may still come.
+pub record Walked : Type 0 where
+  pub refusal : Numbers
+  pub length : ℕ
+  pub left : ℕ
+
 abbrev pub walked_by : ℕ → Part → Walked
 walked_by left p = record { refusal = p.refusal; length = p.end; left = left - length p.notices }
 
 abbrev pub walk_of : Bool → ℕ → List ℕ → Walked
 walk_of ended left s = walked_by left (read_rest ended left 0 s)
+
+-- The numbers of why something stopped: of success where nothing was refused. The same of all that code says of a part.
+abbrev pub why : Option Refusal → Numbers
+why None = none
+why (Some r) = numbers r
+
+abbrev pub walked : code.Walked → Walked
+walked w = record { refusal = why w.refused; length = w.length; left = w.left }
 
 -- The encoding of a list of notices, and which lists have one: at most 1,000,000 byte strings of at most 288 bytes.
 abbrev pub bytes_of : List (List ℕ) → List ℕ

@@ -1,6 +1,6 @@
 // Batches: the notices of a week one behind another, each the value of a field of tag 17.
 //
-// `fault` judges the field at the front of what is left of a batch. `walk` goes through the fields of a part of a batch, so that a
+// `check` judges the field at the front of what is left of a batch. `walk` goes through the fields of a part of a batch, so that a
 // batch can be read from a file in memory that does not grow with it: it says how many bytes whole fields without a fault take,
 // how many notices may still come, and why it stopped if a field was refused. Where more bytes are to come, it leaves a field
 // alone until so many bytes are there as the longest field has.
@@ -11,10 +11,11 @@
 #![tactic(auto)]
 
 ghost use Rattle.std.specs.Prelude.{◌≡◌};
-ghost use Rattle.batches.specs.Meaning.{fault, due, walk_of};
+ghost use Rattle.refusals.specs.Meaning.{checked};
+ghost use Rattle.batches.specs.Meaning.{fault, due, walked, walk_of};
 
 use fields::HEADER;
-use refusals::{LEN, Refusal, SHORT, TAG, WEEK, none, refused};
+use refusals::{Kind, Refusal};
 
 pub const MOST_NOTICES: usize = 1000000;
 
@@ -30,67 +31,64 @@ pub const FIELD: usize = 291;
 // Why a walk stopped, if a field was refused; how many bytes the fields before it take; and how many notices may still come.
 #[derive(Clone, Copy)]
 pub struct Walked {
-    pub refusal: Refusal,
+    pub refused: Option<Refusal>,
     pub length: usize,
     pub left: usize,
 }
 
-// Why the field that `rest` starts with is refused, if it is. It stands at the offset `at`, and `left` notices may still come.
+// Is the field that `rest` starts with a notice? It stands at the offset `at`, and `left` notices may still come.
 #[tactic(auto, using(crate::proofs::Faults::fault_laws))]
-pub fn fault(rest: &[u8], at: usize, left: usize) -> Refusal
-    ensures { result ≡ fault left at rest.now }
+pub fn check(rest: &[u8], at: usize, left: usize) -> Result<(), Refusal>
+    ensures { checked result ≡ fault left at rest.now }
 {
     if fields::short_header(rest) {
-        return refused(SHORT, at);
+        return Err(Refusal::at(Kind::Short, at));
     }
     if fields::tag(rest) != NOTICE {
-        return refused(TAG, at);
+        return Err(Refusal::at(Kind::Tag, at));
     }
     let size = fields::size(rest);
     if left == 0 {
-        return refused(WEEK, at);
+        return Err(Refusal::at(Kind::Week, at));
     }
     if size > LONGEST {
-        return refused(LEN, at);
+        return Err(Refusal::at(Kind::Len, at));
     }
     if fields::short_value(rest, size) {
-        return refused(SHORT, at);
+        return Err(Refusal::at(Kind::Short, at));
     }
-    none()
+    Ok(())
 }
 
 // Is the field at the front of so many bytes judged now? Where the batch has ended, wherever there is a byte.
 fn due(bytes: usize, ended: bool) -> bool
     ensures { result ≡ due ended bytes }
 {
-    if ended {
-        return bytes != 0;
-    }
-    FIELD <= bytes
+    if ended { bytes != 0 } else { FIELD <= bytes }
 }
 
 // Goes through the fields of a part of a batch. `left` notices may still come, and `ended` says that the part is the last one.
 // A refusal's place is counted from the front of the part.
 pub fn walk(part: &[u8], left: usize, ended: bool) -> Walked
-    ensures { result ≡ walk_of ended left part.now }
+    ensures { walked result ≡ walk_of ended left part.now }
 {
     let mut length = 0;
     let mut left = left;
+    // The offset moves by the size that each field says, so that no range gives it.
     while due(part.len() - length, ended) {
         let rest = &part[length..];
-        let refusal = fault(rest, length, left);
-        if refusal.number != 0 {
+        if let Err(refusal) = check(rest, length, left) {
             return Walked {
-                refusal,
+                refused: Some(refusal),
                 length,
                 left,
             };
         }
-        length = length + HEADER + fields::size(rest);
+        length += HEADER + fields::size(rest);
         left -= 1;
     }
     Walked {
-        refusal: none(),
+        refused: None,
         length,
         left,
     }

@@ -8,8 +8,7 @@ use Rattle.answers.specs.declared.Answer.{Answer}
 use Rattle.answers.specs.declared.Answer.TheVariants.{Silent}
 use Rattle.answers.specs.Meaning.{apply_one, apply_two}
 use Rattle.notices.specs.declared.Comparison.{Comparison}
-use Rattle.notices.specs.declared.Seen.{Seen}
-use Rattle.notices.specs.declared.Seen.TheVariants.{Value, Absent}
+use Rattle.std.specs.Prelude.{Option, Some, None}
 use Rattle.notices.specs.Meaning as notice
 use Rattle.sets.specs.Meaning.{Among, pairs}
 use Rattle.truths.specs.Meaning.{combine, answered, whenever}
@@ -17,10 +16,10 @@ use Rattle.trees.specs.Meaning.{Policy, Test, constant, one, two, when, not, joi
 use Rattle.trees.specs.Meaning.{first, second, Choice, compare_seen, under, may_compare, may_say, may_hold, PolicyCertain, TestCertain}
 use Rattle.choosing.proofs.Choices.{within}
 
-compare-certain : (chosen : Bool) (c : Comparison) (s : Seen) (value : ℕ) → (s ≡ Absent → ⊥) →
+compare-certain : (chosen : Bool) (c : Comparison) (s : Option ℕ) (value : ℕ) → (s ≡ None → ⊥) →
     may_compare c s value ≡ compare_seen chosen c s value ∷ []
-compare-certain chosen c Absent value h = absurd (h refl)
-compare-certain chosen c (Value x) value h = refl
+compare-certain chosen c None value h = absurd (h refl)
+compare-certain chosen c (Some x) value h = refl
 
 whenever-certain : (t : Bool) (a : Answer) → whenever (t ∷ []) (a ∷ []) ≡ cond t a Silent ∷ []
 whenever-certain true a = refl

@@ -9,8 +9,7 @@ use Rattle.answers.specs.declared.Answer.{Answer}
 use Rattle.answers.specs.declared.Answer.TheVariants.{Silent}
 use Rattle.answers.specs.Meaning.{apply_one, apply_two}
 use Rattle.notices.specs.declared.Comparison.{Comparison}
-use Rattle.notices.specs.declared.Seen.{Seen}
-use Rattle.notices.specs.declared.Seen.TheVariants.{Value, Absent}
+use Rattle.std.specs.Prelude.{Option, Some, None}
 use Rattle.notices.specs.Meaning as notice
 use Rattle.sets.specs.Meaning.{Among}
 use Rattle.sets.proofs.Members.{pairs_among, among_pairs}
@@ -20,13 +19,13 @@ use Rattle.truths.proofs.Truths.{each_truth}
 use Rattle.trees.specs.Meaning.{Policy, Test, constant, one, two, when, not, joint, comparison, present, answers, says, holds}
 use Rattle.trees.specs.Meaning.{Operand, first, second, Choice, compare_seen, under, always_false, may_compare, may_say, may_hold}
 
-compare_among : (chosen : Bool) (c : Comparison) (s : Seen) (value : ℕ) → Among (compare_seen chosen c s value) (may_compare c s value)
-compare_among chosen c Absent value = each_truth chosen
-compare_among chosen c (Value x) value = Memᴰ.head refl
+compare_among : (chosen : Bool) (c : Comparison) (s : Option ℕ) (value : ℕ) → Among (compare_seen chosen c s value) (may_compare c s value)
+compare_among chosen c None value = each_truth chosen
+compare_among chosen c (Some x) value = Memᴰ.head refl
 
-among_compare : (b : Bool) (c : Comparison) (s : Seen) (value : ℕ) → Among b (may_compare c s value) → compare_seen b c s value ≡ b
-among_compare b c Absent value i = refl
-among_compare b c (Value x) value i = sym (Memᴰ.eq_of_singleton i)
+among_compare : (b : Bool) (c : Comparison) (s : Option ℕ) (value : ℕ) → Among b (may_compare c s value) → compare_seen b c s value ≡ b
+among_compare b c None value i = refl
+among_compare b c (Some x) value i = sym (Memᴰ.eq_of_singleton i)
 
 -- A choice as an operand's tree sees it, and choices for two operands as one for the whole tree.
 abbrev pub within : Operand → Choice → Choice

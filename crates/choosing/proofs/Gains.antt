@@ -10,8 +10,7 @@ use lib.Dec.{eqb}
 use borrow.Author.Tests.{eqb-true}
 use Rattle.answers.specs.Meaning.{apply_one, apply_two}
 use Rattle.notices.specs.declared.Comparison.{Comparison}
-use Rattle.notices.specs.declared.Seen.{Seen}
-use Rattle.notices.specs.declared.Seen.TheVariants.{Value, Absent}
+use Rattle.std.specs.Prelude.{Option, Some, None}
 use Rattle.notices.specs.Meaning as notice
 use Rattle.sets.proofs.Members.{Subset, subset_map, subset_pairs}
 use Rattle.truths.specs.Meaning.{combine, answered}
@@ -21,28 +20,28 @@ use Rattle.trees.specs.Meaning.{Policy, Test, constant, one, two, when, not, joi
 use Rattle.trees.specs.Meaning.{may_compare, may_say, may_hold, Gains, PolicyUnasked, TestUnasked}
 
 -- What is seen behind one fact more at the front of both lists.
-behind : (first : Bool) (x : Seen) {s r : Seen} → (s ≡ Absent) ⊎ (r ≡ s) → (cond first x s ≡ Absent) ⊎ (cond first x r ≡ cond first x s)
+behind : (first : Bool) (x : Option ℕ) {s r : Option ℕ} → (s ≡ None) ⊎ (r ≡ s) → (cond first x s ≡ None) ⊎ (cond first x r ≡ cond first x s)
 behind true x g = inr refl
 behind false x g = g
 
-absent_behind : (first : Bool) (value : ℕ) {s : Seen} → cond first (Value value) s ≡ Absent → s ≡ Absent
+absent_behind : (first : Bool) (value : ℕ) {s : Option ℕ} → cond first (Some value) s ≡ None → s ≡ None
 absent_behind true value e = absurd (true≢false (ap notice.present e))
 absent_behind false value e = e
 
 -- A list gains where one fact is put into it, anywhere, of which it said nothing.
-pub gains_one : (fs rest : List notice.Fact) (f : notice.Fact) → notice.seen (fs ++ rest) f.number ≡ Absent →
+pub gains_one : (fs rest : List notice.Fact) (f : notice.Fact) → notice.seen (fs ++ rest) f.number ≡ None →
     Gains (fs ++ rest) (fs ++ f ∷ rest)
 unfolding notice.seen
 gains_one [] rest f h fact = go (eqb f.number fact) refl
   where
     go : (same : Bool) → eqb f.number fact ≡ same →
-        (notice.seen rest fact ≡ Absent) ⊎ (cond same (Value f.value) (notice.seen rest fact) ≡ notice.seen rest fact)
+        (notice.seen rest fact ≡ None) ⊎ (cond same (Some f.value) (notice.seen rest fact) ≡ notice.seen rest fact)
     go true e = inl (rw (← eqb-true f.number fact e) h)
     go false e = inr refl
 gains_one (x ∷ fs) rest f h fact =
-    behind (eqb x.number fact) (Value x.value) (gains_one fs rest f (absent_behind (eqb x.number f.number) x.value h) fact)
+    behind (eqb x.number fact) (Some x.value) (gains_one fs rest f (absent_behind (eqb x.number f.number) x.value h) fact)
 
-compare_gains : (c : Comparison) (s r : Seen) (value : ℕ) → (s ≡ Absent) ⊎ (r ≡ s) → Subset (may_compare c r value) (may_compare c s value)
+compare_gains : (c : Comparison) (s r : Option ℕ) (value : ℕ) → (s ≡ None) ⊎ (r ≡ s) → Subset (may_compare c r value) (may_compare c s value)
 compare_gains c s r value (inl e) b i = rw e (each_truth b)
 compare_gains c s r value (inr e) b i = rw (← e) i
 

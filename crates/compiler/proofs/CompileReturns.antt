@@ -11,46 +11,43 @@ use native.Mathlib.Nat.{zero-add}
 use native.Mathlib.Omega.{arith}
 use Rattle.lent.specs.Meaning.{WroteWhole}
 use Rattle.lent.proofs.Laws.{placed_nothing, placed-all, placed_wrote}
-use Rattle.refusals.specs.Meaning.{none, refused, ROOM}
+use Rattle.std.specs.Prelude.{Result, Err}
+use Rattle.refusals.specs.Meaning.{none, numbers, refusal_at, ROOM}
+use Rattle.refusals.specs.declared.Kind.TheVariants as kind
 use Rattle.refusals.specs.declared.Refusal.{Refusal}
-use Rattle.tables.specs.declared.TableRead.{TableRead}
+use Rattle.refusals.proofs.Checks.{kind_refuses, refusal_counts}
 use Rattle.answers.specs.declared.Answer.{Answer}
 use Rattle.rows.specs.Meaning.{rows_in}
 use Rattle.defaults.specs.Meaning.{default_answer, default_in}
-use Rattle.tables.specs.Meaning.{read_of, behind_columns, rows_part, table_of}
+use Rattle.tables.specs.Meaning.{TableRead, refuse_table, read_of, behind_columns, rows_part, table_of}
 use Rattle.tables.proofs.Accepted.{read_accepted}
 use Rattle.formula.specs.Meaning.{rows_nodes, all_rows, table_nodes, table_size}
 use Rattle.formula.proofs.Sizes.{table_size_lem}
 use Rattle.writing.specs.Meaning.{few_rows}
-use Rattle.compiler.specs.declared.Compiled.{Compiled}
-use Rattle.compiler.specs.Meaning.{refuse_compiled, reply_of, compile_of, written_of}
+use Rattle.compiler.specs.Meaning.{Compiled, refuse_compiled, compiled, reply_of, compile_of, written_of}
+use Rattle.compiler.specs.declared.Sizes.{Sizes}
 
 -- a refused call writes nothing
 pub written-refused : (t lent : List ℕ) → ((compile_of t (length lent)).refusal.number ≡ 0 → ⊥) → lent ≡ written_of t lent
 unfolding written_of
 written-refused t lent h = rw (ne_eqb (compile_of t (length lent)).refusal.number 0 h)
 
--- the reply to a table that was read
-module _ (room needed columns rows : ℕ) {x : Refusal} where
-  pub reply-room : {q : Compiled} → room < needed → x ≡ refused ROOM needed → q ≡ refuse_compiled x → q ≡ reply_of room needed columns rows
-  reply-room l i j = rw (lt-ltb room needed l, ← i) j
-
-  pub reply_accepts :
-      needed ≤ room →
-      x ≡ none →
-      record { refusal = x; columns = columns; rows = rows; nodes = needed } ≡ reply_of room needed columns rows
-  reply_accepts l i = rw (le-ltb room needed l, i)
-
-module _ (t : List ℕ) {f : TableRead} (e : f ≡ read_of t) where
-  pub compile-unread : (room : ℕ) {q : Compiled} → (f.refusal.number ≡ 0 → ⊥) → q ≡ refuse_compiled f.refusal → q ≡ compile_of t room
+-- a table that is not read
+module _ (t : List ℕ) (x : Refusal) (e : refuse_table (numbers x) ≡ read_of t) where
+  unread : (room : ℕ) → refuse_compiled (numbers x) ≡ compile_of t room
   unfolding compile_of
-  compile-unread room h k = rw (← e, ne_eqb f.refusal.number 0 h) k
+  unread room = rw (← e, kind_refuses x.kind)
 
-  pub unread_writes_nothing : (lent : List ℕ) → (f.refusal.number ≡ 0 → ⊥) → lent ≡ written_of t lent
-  unread_writes_nothing lent h =
-      written-refused t lent
-      (λ z. h (ap (λ (x : Compiled). x.refusal.number) (compile-unread (length lent) h refl) ∙ z))
+  pub compile-unread : (room : ℕ) (q : Result Sizes Refusal) → q ≡ Err x → compiled q ≡ compile_of t room
+  compile-unread room q i = ap compiled i ∙ unread room
 
+  pub unread_writes_nothing : (lent : List ℕ) → lent ≡ written_of t lent
+  unread_writes_nothing lent =
+      let counts = refusal_counts x in
+      written-refused t lent (λ z. counts (ap (λ (y : Compiled). y.refusal.number) (unread (length lent)) ∙ z))
+
+-- one that is
+module _ (t : List ℕ) {f : TableRead} (e : f ≡ read_of t) where
   module _ (h : f.refusal.number ≡ 0) where
     read_none : (read_of t).refusal.number ≡ 0
     read_none = ap (λ (x : TableRead). x.refusal.number) (sym e) ∙ h
@@ -75,19 +72,28 @@ module _ (t : List ℕ) {f : TableRead} (e : f ≡ read_of t) where
         same-long : length new ≡ length lent
         same-long = (placed_wrote p).long
 
-        replied : compile_of t (length lent) ≡ reply_of (length lent) needed f.columns f.rows
+        replied-is : compile_of t (length lent) ≡ reply_of (length lent) needed f.columns f.rows
         unfolding compile_of
-        replied = rw (← e, eq-eqb f.refusal.number 0 h, ← needed_is)
+        replied-is = rw (← e, eq-eqb f.refusal.number 0 h, ← needed_is)
 
-        pub compile-replies : {q : Compiled} → q ≡ reply_of (length new) needed f.columns f.rows → q ≡ compile_of t (length lent)
-        compile-replies k = k ∙ ap (λ x. reply_of x needed f.columns f.rows) same-long ∙ sym replied
+        pub compile-room : length new < needed → (x : Refusal) → x ≡ refusal_at kind.Room needed → refuse_compiled (numbers x) ≡ compile_of t (length lent)
+        compile-room l x i =
+            let few : length lent < needed = rw same-long at l in
+            rw (i, replied-is, lt-ltb (length lent) needed few)
+
+        pub compile_accepts :
+            needed ≤ length new →
+            record { refusal = none; columns = f.columns; rows = f.rows; nodes = needed } ≡ compile_of t (length lent)
+        compile_accepts l =
+            let enough : needed ≤ length lent = rw same-long at l in
+            rw (replied-is, le-ltb (length lent) needed enough)
 
         room_writes_nothing : length lent < needed → new ≡ written_of t lent
         room_writes_nothing l =
             placed_nothing p l
             ∙ written-refused t lent
             (λ z.
-            let y : ◌≡◌ {A = ℕ} ROOM 0 = rw (replied, lt-ltb (length lent) needed l) at z in
+            let y : ◌≡◌ {A = ℕ} ROOM 0 = rw (replied-is, lt-ltb (length lent) needed l) at z in
             absurd (omega arith))
 
         nodes_written : needed ≤ length lent → new ≡ written_of t lent
@@ -96,7 +102,7 @@ module _ (t : List ℕ) {f : TableRead} (e : f ≡ read_of t) where
             let xs : List ℕ = table_nodes (table_of t) in
             let ends : 0 + length xs ≡ needed = zero-add (length xs) ∙ table_size_lem (table_of t) ∙ sym needed_is in
             let all : new ≡ sets lent 0 xs = placed-all p l ∙ ap (sets lent 0) nodes_are in
-            rw (replied, le-ltb (length lent) needed l, ← needed_is, ← ends) (all ∙ sets-eq xs lent 0 (omega arith))
+            rw (replied-is, le-ltb (length lent) needed l, ← needed_is, ← ends) (all ∙ sets-eq xs lent 0 (omega arith))
 
         pub read_written : new ≡ written_of t lent
         read_written = go (ltb (length lent) needed) refl
@@ -104,6 +110,3 @@ module _ (t : List ℕ) {f : TableRead} (e : f ≡ read_of t) where
             go : (s : Bool) → ltb (length lent) needed ≡ s → new ≡ written_of t lent
             go true k = room_writes_nothing (ltb-true (length lent) needed k)
             go false k = nodes_written (ltb-false (length lent) needed k)
-
--- What `reply` returns.
-pub ruleset reply_laws = (reply-room, reply_accepts)

@@ -7,8 +7,7 @@ use mathlib.Core.List.{List, [], ◌++◌}
 use native.Mathlib.Omega.{arith}
 use lib.ListN.{length, drop_of_length-le}
 use borrow.Author.Tests.{ne_eqb}
-use Rattle.refusals.specs.declared.Refusal.{Refusal}
-use Rattle.refusals.specs.Meaning.{none, WEEK}
+use Rattle.refusals.specs.Meaning.{Numbers, none, WEEK}
 use Rattle.batches.specs.Meaning.{fault, Part, due, read_rest}
 use Rattle.counting.proofs.Faults.{fault-room, fault-place, fault-full, full_loud}
 use Rattle.counting.proofs.Ends.{each-ends, accepted_whole, refused-due, refused_why}
@@ -23,7 +22,7 @@ module _ (left : ℕ) (a b : List ℕ) (ok : (read_rest true left 0 a).refusal.n
   B = read_rest true left 0 b
 
   -- what the rest of a batch is refused with where so many notices are left behind the second part's
-  abbrev because : ℕ → Refusal
+  abbrev because : ℕ → Numbers
   because n = cond (due true (length (unread 0 b B))) (fault n B.end (unread 0 b B)) none
 
   pub cut_onward : read_rest true left 0 (a ++ b) ≡ behind_these A.notices (read_rest true (left - length A.notices) (length a) b)
@@ -78,9 +77,9 @@ module _ (left : ℕ) (a b : List ℕ) (ok : (read_rest true left 0 a).refusal.n
         cut_because ∙ rw (none_left, refused-due true left 0 b loud) in
         let why = refused_why true left 0 b loud in
         let here : B.refusal.place ≡ B.end =
-        ap (λ (r : Refusal). r.place) (why ∙ fault-place B.end rest (left - length B.notices) (rw (← why) loud)) in
+        ap (λ (r : Numbers). r.place) (why ∙ fault-place B.end rest (left - length B.notices) (rw (← why) loud)) in
         let there : (fault 0 B.end rest).place ≡ B.end =
-        ap (λ (r : Refusal). r.place) (fault-place B.end rest 0 (full_loud B.end rest)) in
+        ap (λ (r : Numbers). r.place) (fault-place B.end rest 0 (full_loud B.end rest)) in
         rw (full, ne_eqb (fault 0 B.end rest).number 0 (full_loud B.end rest), here, there) (
           refl,
           rw (why) (fault-full B.end rest (left - length B.notices)),

@@ -7,8 +7,7 @@ use native.Mathlib.Omega.{arith}
 use lib.ListN.{length, take, drop, length-drop}
 use lib.Seq.{take_all, take-append-add, drop-drop}
 use borrow.Author.Tests.{ne_eqb, not-false, eqb-true, leb-true, leb-false}
-use Rattle.refusals.specs.declared.Refusal.{Refusal}
-use Rattle.refusals.specs.Meaning.{none}
+use Rattle.refusals.specs.Meaning.{Numbers, none}
 use Rattle.fields.specs.Meaning.{Bytes, field, size}
 use Rattle.fields.proofs.Numbers.{bytes_drop}
 use Rattle.batches.specs.Meaning.{fault, Part, stopped, followed, first_notice, field_size, behind, due, read_rest, bytes_of, Fits}
@@ -96,9 +95,9 @@ module _ (ended : Bool) where
         left at s).1
 
 -- A field that is refused was judged.
-loud_due : (d : Bool) (r f : Refusal) → r ≡ cond d f none → (r.number ≡ 0 → ⊥) → d ≡ true
+loud_due : (d : Bool) (r f : Numbers) → r ≡ cond d f none → (r.number ≡ 0 → ⊥) → d ≡ true
 loud_due true r f e h = refl
-loud_due false r f e h = absurd (h (ap (λ (x : Refusal). x.number) e))
+loud_due false r f e h = absurd (h (ap (λ (x : Numbers). x.number) e))
 
 module _ (ended : Bool) (left at : ℕ) (s : List ℕ) (loud : (read_rest ended left at s).refusal.number ≡ 0 → ⊥) where
   abbrev P : Part

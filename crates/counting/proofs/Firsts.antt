@@ -8,15 +8,14 @@ use lib.Dec.{ltb}
 use lib.ListN.{length, take, drop, length-append, length-drop, take-append-drop}
 use lib.Seq.{length-take-le, take-append-le, drop-append-le, take-append_seam, drop_at, drop-drop}
 use borrow.Author.Tests.{le-ltb, ltb-false, eq-eqb, ne_eqb}
-use Rattle.refusals.specs.declared.Refusal.{Refusal}
-use Rattle.refusals.specs.Meaning.{none, refused, SHORT, TAG, LEN, WEEK}
+use Rattle.refusals.specs.Meaning.{Numbers, none, refused, SHORT, TAG, LEN, WEEK}
 use Rattle.fields.specs.Meaning.{Bytes, two, two_bytes, field, tag, size}
 use Rattle.fields.proofs.Numbers.{two_read_write, two_write_read}
 use Rattle.batches.specs.Meaning.{fault, followed, first_notice, field_size, behind, due, read_rest}
 use Rattle.batches.proofs.Faults.{Sound}
 
 -- the five tests, as what they gave
-abbrev pub judged : ℕ → Bool → Bool → Bool → Bool → Bool → Refusal
+abbrev pub judged : ℕ → Bool → Bool → Bool → Bool → Bool → Numbers
 judged at a b c d e =
     cond a (refused SHORT at)
     (cond b (cond c (refused WEEK at) (cond d (refused LEN at) (cond e (refused SHORT at) none))) (refused TAG at))
@@ -52,7 +51,7 @@ size-more (a ∷ b ∷ []) more h = absurd (omega arith)
 size-more (a ∷ b ∷ c ∷ s) more h = refl
 
 -- .. and so is the fault, where the longest field would be whole
-value-more : (n k l : ℕ) (x y z : Refusal) → 291 ≤ k → 291 ≤ l →
+value-more : (n k l : ℕ) (x y z : Numbers) → 291 ≤ k → 291 ≤ l →
     cond (ltb 288 n) x (cond (ltb k (3 + n)) y z) ≡ cond (ltb 288 n) x (cond (ltb l (3 + n)) y z)
 value-more n k l x y z i j = go (ltb 288 n) refl
   where

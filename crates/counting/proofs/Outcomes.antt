@@ -7,8 +7,7 @@ use native.Mathlib.Omega.{arith}
 use lib.Dec.{eqb}
 use borrow.Author.Tests.{eq-eqb, ne_eqb, eqb-true, eqb-false}
 use Rattle.answers.specs.declared.Answer.{Answer}
-use Rattle.answers.specs.declared.Reply.{Reply}
-use Rattle.answers.specs.Meaning.{number, from_number}
+use Rattle.answers.specs.Meaning.{Reply, number, from_number}
 use Rattle.answers.proofs.Claims.{number_from}
 use Rattle.counts.specs.Meaning.{refused, gave, refused_as}
 

@@ -6,8 +6,7 @@ use mathlib.Core.List.{List, ◌++◌}
 use native.Mathlib.Omega.{arith}
 use lib.Dec.{ltb, eqb}
 use lib.ListN.{length, length-append}
-use Rattle.refusals.specs.declared.Refusal.{Refusal}
-use Rattle.refusals.specs.Meaning.{none}
+use Rattle.refusals.specs.Meaning.{Numbers, none}
 use Rattle.fields.specs.Meaning.{tag, size, short_header, short_value}
 use Rattle.batches.specs.Meaning.{fault, Part, stopped, followed, first_notice, field_size, behind, due, read_rest}
 use Rattle.batches.proofs.Faults.{Sound, fault-none}
@@ -71,7 +70,7 @@ fault-moved left at by s =
     fault_by at by (short_header s) (eqb (tag s) 17) (eqb left 0) (ltb 288 (size s)) (short_value (size s) s)
 
 -- a number is kept
-pub number-moved : (by : ℕ) (r : Refusal) → (moved_refusal by r).number ≡ r.number
+pub number-moved : (by : ℕ) (r : Numbers) → (moved_refusal by r).number ≡ r.number
 number-moved by r = go (eqb r.number 0)
   where
     go : (b : Bool) → (cond b r (record { number = r.number; place = by + r.place; second = r.second })).number ≡ r.number
@@ -113,7 +112,7 @@ each_fewer ended =
     let e : fewer - 0 ≡ fewer = omega arith in
     let loud : (fault fewer at s).number ≡ 0 → ⊥ = λ z.
     let f = fault-none fewer at s z in
-    h (ap (λ (r : Refusal). r.number) (sound-fault left at s (fewer-sound fewer left s f (omega (arith, f.room, l))))) in
+    h (ap (λ (r : Numbers). r.number) (sound-fault left at s (fewer-sound fewer left s f (omega (arith, f.room, l))))) in
     read_refused ended at s fewer d loud ∙ rw (unread-all at s, d, e))
     (λ left at s d h p k w fewer l m.
     let e : fewer ≡ suc (fewer - 1) = omega (arith, m) in

@@ -7,9 +7,9 @@ use native.Mathlib.Omega.{arith}
 use lib.Dec.{T, ltb, eqb}
 use lib.ListN.{length}
 use borrow.Author.Tests.{lt-ltb, le-ltb, ltb-true, ltb-false, ne_eqb}
-use Rattle.refusals.specs.declared.Refusal.{Refusal}
+use Rattle.refusals.specs.Meaning.{Numbers}
 use Rattle.answers.specs.declared.Answer.{Answer}
-use Rattle.answers.specs.declared.Reply.{Reply}
+use Rattle.answers.specs.Meaning.{Reply}
 use Rattle.notices.specs.Meaning as notice
 use Rattle.notices.proofs.Found.{Found, read_rest-found}
 use Rattle.trees.specs.Meaning.{Policy, Read, refused}
@@ -102,10 +102,10 @@ zero-none voice ns = count_never (refused_as 0) (λ n. speak_of n voice) (λ n. 
         go false = refl
 
 -- Where the voice is refused: each notice is, under its own number or else the voice's.
-pub unheard-notice : (n voice : List ℕ) (q : Refusal) → notice.read_facts n ≡ notice.refused q → speak_of n voice ≡ refuse_reply q
+pub unheard-notice : (n voice : List ℕ) (q : Numbers) → notice.read_facts n ≡ notice.refused q → speak_of n voice ≡ refuse_reply q
 unheard-notice n voice q e = rw e
 
-module _ (voice : List ℕ) (r : Refusal) (e : read_voice voice ≡ refused r) where
+module _ (voice : List ℕ) (r : Numbers) (e : read_voice voice ≡ refused r) where
   pub unheard_voice : (n : List ℕ) (fs : List notice.Fact) → notice.read_facts n ≡ notice.facts fs → speak_of n voice ≡ refuse_reply r
   unheard_voice n fs f = rw (f, e)
 

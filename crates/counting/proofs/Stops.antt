@@ -9,8 +9,7 @@ use lib.Dec.{T, eqb}
 use lib.ListN.{length, take, drop}
 use lib.Seq.{length-take-le}
 use borrow.Author.Tests.{eqb-true, eqb-false}
-use Rattle.refusals.specs.declared.Refusal.{Refusal}
-use Rattle.refusals.specs.Meaning.{refused, WEEK}
+use Rattle.refusals.specs.Meaning.{Numbers, refused, WEEK}
 use Rattle.fields.specs.Meaning.{Bytes, tag}
 use Rattle.batches.specs.Meaning.{fault, Part, read_rest, bytes_of}
 use Rattle.batches.proofs.Reading.{read_few, read_within}
@@ -39,7 +38,7 @@ module _ (left : ℕ) (b : List ℕ) where
     pub stop-place : (P left b).refusal ≡ refused (P left b).refusal.number (P left b).end
     stop-place =
         stop_why ∙ fault-place (P left b).end (drop (P left b).end b) (left - length (P left b).notices) stop_loud
-        ∙ ap (λ (r : Refusal). refused r.number (P left b).end) (sym stop_why)
+        ∙ ap (λ (r : Numbers). refused r.number (P left b).end) (sym stop_why)
 
     pub stop-published : T (published (P left b).refusal.number)
     stop-published =
@@ -49,8 +48,8 @@ module _ (left : ℕ) (b : List ℕ) where
   stop-second = go (eqb (P left b).refusal.number 0) refl
     where
       go : (d : Bool) → eqb (P left b).refusal.number 0 ≡ d → (P left b).refusal.second ≡ 0
-      go true e = ap (λ (r : Refusal). r.second) (accepted_none left 0 b (eqb-true (P left b).refusal.number 0 e))
-      go false e = ap (λ (r : Refusal). r.second) (stop-place (eqb-false (P left b).refusal.number 0 e))
+      go true e = ap (λ (r : Numbers). r.second) (accepted_none left 0 b (eqb-true (P left b).refusal.number 0 e))
+      go false e = ap (λ (r : Numbers). r.second) (stop-place (eqb-false (P left b).refusal.number 0 e))
 
   pub stop-within : (P left b).end ≤ length b
   stop-within = omega (arith, read_within true left 0 b)
@@ -70,12 +69,12 @@ module _ (left : ℕ) (b : List ℕ) where
     λ w.
         let loud : (P left b).refusal.number ≡ 0 → ⊥ = λ z. omega (arith, w, z) in
         let h = (fault_week (P left b).end (drop (P left b).end b) (left - length (P left b).notices)).0
-        (ap (λ (r : Refusal). r.number) (sym (stop_why loud)) ∙ w) in
+        (ap (λ (r : Numbers). r.number) (sym (stop_why loud)) ∙ w) in
         (omega (arith, h.0, read_few true left 0 b), h.1),
     λ h.
         let rest = drop (P left b).end b in
         let why : (P left b).refusal ≡ fault (left - length (P left b).notices) (P left b).end rest =
         rw start_none at (each-ends true left 0 b).why ∙ rw (due-end (length rest) (omega (arith, h.1.0))) in
-        ap (λ (r : Refusal). r.number) why
+        ap (λ (r : Numbers). r.number) why
         ∙ (fault_week (P left b).end rest (left - length (P left b).notices)).1 (omega (arith, h.0), h.1),
   )

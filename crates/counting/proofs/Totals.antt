@@ -9,8 +9,7 @@ use lib.ListN.{length, get_or, length-append}
 use borrow.Author.Tests.{eq-eqb, ne_eqb, eqb-true, eqb-false}
 use Rattle.answers.specs.declared.Answer.{Answer}
 use Rattle.answers.specs.declared.Answer.TheVariants.{Silent, Bury, Keep, Clash}
-use Rattle.answers.specs.declared.Reply.{Reply}
-use Rattle.answers.specs.Meaning.{number}
+use Rattle.answers.specs.Meaning.{Reply, number}
 use Rattle.counts.specs.Meaning.{count, refused, gave, refused_as, numbers_from, counts_of, LARGEST, raised, raised_all, plus}
 use Rattle.counts.proofs.Raising.{count_most, raised-sum}
 use Rattle.counting.specs.Meaning.{total, sums, sum}

@@ -1,13 +1,11 @@
 -- Words for the laws of batches and counts: sums of counts, parts of a batch read one behind another, and a refused voice's numbers.
 use Rattle.std.specs.Prelude.{ℕ, ◌+◌, ◌-◌, ◌≡◌, true, false, cond, List, [], ◌∷◌, ◌++◌, eqb, length, take, drop}
-use Rattle.refusals.specs.declared.Refusal.{Refusal}
-use Rattle.refusals.specs.Meaning.{after}
+use Rattle.refusals.specs.Meaning.{Numbers, after}
 use Rattle.fields.specs.Meaning.{Bytes}
 use Rattle.notices.specs.Meaning.{notice_of}
 use Rattle.batches.specs.Meaning.{Part, read_batch, walk_of}
 use Rattle.counts.specs.declared.Counts.{Counts}
-use Rattle.weeks.specs.declared.Week.{Week}
-use Rattle.weeks.specs.Meaning.{week_of, onto_of}
+use Rattle.weeks.specs.Meaning.{Week, week_of, onto_of}
 
 -- What some counts come to.
 abbrev pub total : List ℕ → ℕ
@@ -36,7 +34,7 @@ abbrev pub behind_these : List (List ℕ) → Part → Part
 behind_these ns p = record { notices = ns ++ p.notices; refusal = p.refusal; end = p.end }
 
 -- "under the notice's number where that is refused first": the number that a notice is counted under where the voice is refused.
-abbrev pub first_number : Refusal → List ℕ → ℕ
+abbrev pub first_number : Numbers → List ℕ → ℕ
 first_number voice notice = cond (eqb (notice_of notice).refusal.number 0) voice.number (notice_of notice).refusal.number
 
 -- What a reading from an offset on left of its bytes.
@@ -44,7 +42,7 @@ abbrev pub unread : ℕ → List ℕ → Part → List ℕ
 unread at s p = drop (p.end - at) s
 
 -- A reading of bytes that stand so far behind in a batch: its offsets are moved.
-abbrev pub moved_refusal : ℕ → Refusal → Refusal
+abbrev pub moved_refusal : ℕ → Numbers → Numbers
 moved_refusal by r = cond (eqb r.number 0) r (record { number = r.number; place = by + r.place; second = r.second })
 
 abbrev pub moved : ℕ → Part → Part

@@ -7,7 +7,7 @@ use native.Mathlib.Omega.{arith}
 use lib.ListN.{length}
 use borrow.Author.Tests.{lt-ltb}
 use Rattle.answers.specs.declared.Answer.TheVariants.{Silent, Bury, Keep, Clash}
-use Rattle.answers.specs.declared.Reply.{Reply}
+use Rattle.answers.specs.Meaning.{Reply}
 use Rattle.counts.specs.declared.Counts.{Counts}
 use Rattle.counts.specs.Meaning.{count, refused, gave, refused_as, numbers_from, counts_of, LARGEST, raised, raised_all, plus}
 

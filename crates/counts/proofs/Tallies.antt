@@ -9,8 +9,10 @@ use lib.ListN.{set, get_or}
 use borrow.Author.Tests.{ltb-true, ltb-false, eq-eqb, ne_eqb}
 use Rattle.answers.specs.declared.Answer.{Answer}
 use Rattle.answers.specs.declared.Answer.TheVariants.{Silent, Bury, Keep, Clash}
-use Rattle.answers.specs.declared.Reply.{Reply}
-use Rattle.answers.specs.Meaning.{number}
+use Rattle.refusals.specs.declared.Refusal.{Refusal}
+use Rattle.refusals.specs.Meaning.{numbers, kind_number}
+use Rattle.refusals.proofs.Checks.{refusal_counts}
+use Rattle.answers.specs.Meaning.{Reply, number, succeed, refuse_answer}
 use Rattle.counts.specs.declared.Counts.{Counts}
 use Rattle.counts.specs.Meaning.{count, refused_as, numbers_from, counts_of, more, raised, raised_all, plus}
 use Rattle.counts.specs.Inside.{answered, tallied}
@@ -89,3 +91,10 @@ module _ (r : Reply) where
       go Bury = refl
       go Keep = refl
       go Clash = refl
+
+-- the same of what code counts: an answer that is given, and a refusal
+pub answer_counted : (r : Reply) (a : Answer) (c : Counts) → succeed a ≡ r → answered c a ≡ plus c (counts_of (r ∷ []))
+answer_counted r a c e = rw (← e) (reply-answered (succeed a) c refl)
+
+pub refusal_counted : (r : Reply) (x : Refusal) (c : Counts) → refuse_answer (numbers x) ≡ r → tallied c (kind_number x.kind) ≡ plus c (counts_of (r ∷ []))
+refusal_counted r x c e = rw (← e) (reply-refused (refuse_answer (numbers x)) (refusal_counts x) c)

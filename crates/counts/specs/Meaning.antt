@@ -2,8 +2,7 @@
 use Rattle.std.specs.Prelude.{ℕ, zero, suc, Bool, false, cond, not, List, [], ◌∷◌, ltb, eqb}
 use Rattle.answers.specs.declared.Answer.{Answer}
 use Rattle.answers.specs.declared.Answer.TheVariants.{Silent, Bury, Keep, Clash}
-use Rattle.answers.specs.declared.Reply.{Reply}
-use Rattle.answers.specs.Meaning.{number}
+use Rattle.answers.specs.Meaning.{Reply, number}
 use Rattle.counts.specs.declared.Counts.{Counts}
 
 -- How many pass a test, going through them one by one.

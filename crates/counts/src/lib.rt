@@ -8,16 +8,16 @@
 #![tactic(auto)]
 
 ghost use Rattle.std.specs.Prelude.{◌≡◌, [], ◌∷◌};
+ghost use Rattle.refusals.specs.Meaning.{kind_number};
 ghost use Rattle.voices.specs.Meaning.{speak_of};
-ghost use Rattle.counts.specs.Meaning.{counts_of, more, plus};
+ghost use Rattle.counts.specs.Meaning.{counts_of, plus};
 ghost use Rattle.counts.specs.Inside.{answered, tallied};
 
-use answers::{Answer, Reply};
+use answers::Answer;
+use refusals::Kind;
 
 // Above every refusal's number.
 pub const NUMBERS: usize = 32;
-
-const LARGEST: u64 = 18446744073709551615;
 
 // How many notices gave each answer; how many were refused; and how many of these with each number.
 #[derive(Clone, Copy)]
@@ -44,55 +44,37 @@ pub fn none() -> Counts
     }
 }
 
-fn more(count: u64) -> u64
-    ensures { result ≡ more count }
-{
-    if count < LARGEST { count + 1 } else { count }
-}
-
-fn count_answer(counts: Counts, answer: Answer) -> Counts
-    ensures { result ≡ answered counts answer }
-{
-    let mut next = counts;
-    match answer {
-        Answer::Silent => next.silent = more(counts.silent),
-        Answer::Bury => next.bury = more(counts.bury),
-        Answer::Keep => next.keep = more(counts.keep),
-        Answer::Clash => next.clash = more(counts.clash),
+impl Counts {
+    // With one answer more among them.
+    fn answered(mut self, answer: Answer) -> Counts
+        ensures { result ≡ answered self answer }
+    {
+        match answer {
+            Answer::Silent => self.silent = self.silent.saturating_add(1),
+            Answer::Bury => self.bury = self.bury.saturating_add(1),
+            Answer::Keep => self.keep = self.keep.saturating_add(1),
+            Answer::Clash => self.clash = self.clash.saturating_add(1),
+        }
+        self
     }
-    next
-}
 
-// A refusal, whose number has a count of its own where that is below 32.
-fn count_refused(counts: Counts, number: u8) -> Counts
-    ensures { result ≡ tallied counts number }
-{
-    let mut next = counts;
-    next.refused = more(counts.refused);
-    let index = number as usize;
-    if index < NUMBERS {
-        next.numbers[index] = more(counts.numbers[index]);
+    // With one refusal more among them, which is counted under its number too.
+    fn refused(mut self, kind: Kind) -> Counts
+        ensures { result ≡ tallied self (kind_number kind) }
+    {
+        self.refused = self.refused.saturating_add(1);
+        let count = &mut self.numbers[u8::from(kind) as usize];
+        *count = count.saturating_add(1);
+        self
     }
-    next
-}
-
-// The counts with one reply more among them.
-fn count_reply(counts: Counts, reply: Reply) -> Counts
-    ensures { result ≡ plus counts (counts_of (reply ∷ [])) }
-{
-    let refusal = reply.refusal;
-    let number = refusal.number;
-    if number != 0 {
-        return count_refused(counts, number);
-    }
-    let answer = reply.answer;
-    count_answer(counts, answer)
 }
 
 // The counts with one notice more among them.
 pub fn count_notice(counts: Counts, notice: &[u8], voice: &[u8]) -> Counts
     ensures { result ≡ plus counts (counts_of (speak_of notice.now voice.now ∷ [])) }
 {
-    let reply = voices::speak(notice, voice);
-    count_reply(counts, reply)
+    match voices::speak(notice, voice) {
+        Ok(answer) => counts.answered(answer),
+        Err(refusal) => counts.refused(refusal.kind),
+    }
 }

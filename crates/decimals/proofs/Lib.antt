@@ -1,3 +1,3 @@
-pub mod Reading
 pub mod Values
 pub mod Printed
+pub mod Parsed

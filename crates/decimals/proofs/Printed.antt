@@ -7,8 +7,9 @@ use lib.Dec.{ltb}
 use borrow.Author.Tests.{lt-ltb, le-ltb, ltb-true}
 use native.Mathlib.Nat.{pow-suc}
 use native.Mathlib.Omega.{arith}
+use Rattle.std.specs.Prelude.{Some}
 use Rattle.text.specs.Meaning.{decimal_onto, decimal}
-use Rattle.decimals.specs.Meaning.{given, read_onto, number_in}
+use Rattle.decimals.specs.Meaning.{read_onto, number_in}
 
 digit_read : (n d m : ℕ) (s : List ℕ) → d < 10 → n * 10 + d ≡ m → m < 2 ^ 64 → read_onto n ((48 + d) ∷ s) ≡ read_onto m s
 unfolding read_onto
@@ -29,6 +30,6 @@ digits_read (suc k) n behind h l =
     go true e rest = digit_read 0 n n behind (ltb-true n 10 e) (omega arith) l
     go false e rest = rest
 
-pub number-decimal : (n : ℕ) → n < 2 ^ 64 → number_in (decimal n) ≡ given n
+pub number-decimal : (n : ℕ) → n < 2 ^ 64 → number_in (decimal n) ≡ Some n
 unfolding decimal read_onto
 number-decimal n h = digits_read 19 n [] (omega arith) h

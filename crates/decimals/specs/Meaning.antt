@@ -1,26 +1,19 @@
 -- Numbers in decimal: which bytes give one, and which it is.
-use Rattle.std.specs.Prelude.{ℕ, ◌+◌, ◌-◌, ◌*◌, ◌^◌, ◌≤◌, true, false, cond, List, [], ◌∷◌, ltb}
-use Rattle.decimals.specs.declared.Number.{Number}
-
-abbrev pub given : ℕ → Number
-given n = record { given = true; number = n }
-
-abbrev pub none : Number
-none = record { given = false; number = 0 }
+use Rattle.std.specs.Prelude.{ℕ, ◌+◌, ◌-◌, ◌*◌, ◌^◌, ◌≤◌, cond, List, [], ◌∷◌, ltb, Option, Some, None}
 
 -- A number with one more digit behind it. The digits 0 to 9 are the bytes 48 to 57.
 abbrev pub onto : ℕ → ℕ → ℕ
 onto n digit = n * 10 + (digit - 48)
 
 -- Bytes behind the digits of a number. A byte that is no digit, or a number of more than 64 bits, gives none.
-unfoldable pub read_onto : ℕ → List ℕ → Number
-read_onto n [] = given n
+unfoldable pub read_onto : ℕ → List ℕ → Option ℕ
+read_onto n [] = Some n
 read_onto n (b ∷ bs) =
-    cond (ltb b 48) none (cond (ltb 57 b) none (cond (ltb (onto n b) (2 ^ 64)) (read_onto (onto n b) bs) none))
+    cond (ltb b 48) None (cond (ltb 57 b) None (cond (ltb (onto n b) (2 ^ 64)) (read_onto (onto n b) bs) None))
 
 -- What bytes give: none where there are none.
-abbrev pub number_in : List ℕ → Number
-number_in [] = none
+abbrev pub number_in : List ℕ → Option ℕ
+number_in [] = None
 number_in (b ∷ bs) = read_onto 0 (b ∷ bs)
 
 -- All bytes are digits.

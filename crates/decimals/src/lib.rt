@@ -7,56 +7,14 @@
 #![tactic(auto)]
 
 ghost use Rattle.std.specs.Prelude.{◌≡◌};
-ghost use Rattle.decimals.specs.Meaning.{none, number_in};
+ghost use Rattle.decimals.specs.Meaning.{number_in};
 
-// The digits 0 and 9 as bytes.
-const ZERO: u8 = 48;
-
-const NINE: u8 = 57;
-
-const LARGEST: usize = 18446744073709551615;
-
-// Whether a number is given, and which; 0 where none is.
-#[derive(Clone, Copy)]
-pub struct Number {
-    pub given: bool,
-    pub number: usize,
-}
-
-fn none() -> Number
-    ensures { result ≡ none }
-{
-    Number {
-        given: false,
-        number: 0,
-    }
-}
-
-pub fn number_in(bytes: &[u8]) -> Number
+pub fn number_in(bytes: &[u8]) -> Option<usize>
     ensures { result ≡ number_in bytes.now }
 {
-    if bytes.len() == 0 {
-        return none();
+    // `parse` takes a plus in front of the digits.
+    if bytes.starts_with(b"+") {
+        return None;
     }
-    let mut number = 0;
-    let mut i = 0;
-    while i < bytes.len() {
-        let byte = bytes[i];
-        if byte < ZERO {
-            return none();
-        }
-        if byte > NINE {
-            return none();
-        }
-        let digit = (byte - ZERO) as usize;
-        if (LARGEST - digit) / 10 < number {
-            return none();
-        }
-        number = number * 10 + digit;
-        i += 1;
-    }
-    Number {
-        given: true,
-        number,
-    }
+    str::from_utf8(bytes).ok()?.parse().ok()
 }

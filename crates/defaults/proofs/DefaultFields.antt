@@ -4,17 +4,13 @@ use mathlib.Core.Path.{◌≡◌, refl, sym, ◌∙◌}
 use mathlib.Core.Bool.{Bool, true, false, cond}
 use mathlib.Core.List.{List}
 use lib.Dec.{ltb, eqb}
-use lib.ListN.{length, get_or, get_or-eq_default}
+use lib.ListN.{length, get_or}
 use borrow.Author.Tests.{lt-ltb, le-ltb, eq-eqb, ne_eqb, ltb-false, eqb-true, not-false}
 use native.Mathlib.Omega.{arith}
-use Rattle.refusals.specs.Meaning.{none, refused, SHORT, LEN, VALUE}
-use Rattle.refusals.specs.declared.Refusal.{Refusal}
+use Rattle.refusals.specs.Meaning.{Numbers, none, refused, SHORT, LEN, VALUE}
 use Rattle.fields.specs.Meaning.{tag, size, short_header, short_value}
-use Rattle.answers.specs.Meaning.{from_number}
-use Rattle.answers.specs.declared.Answer.{Answer}
-use Rattle.answers.specs.declared.Answer.TheVariants.{Silent}
 use Rattle.faults.specs.Meaning.{other_length}
-use Rattle.defaults.specs.Meaning.{unwritten, written, default_answer, has_default, default_size, default_in, default_fault}
+use Rattle.defaults.specs.Meaning.{has_default, default_fault}
 
 -- no fault means that every test was passed
 passed :
@@ -47,29 +43,17 @@ default_fault-sound part e h =
 
 -- the ways out of the functions, whose tests the code has in hand
 module _ (part : List ℕ) {k : ℕ} (e : k ≡ tag part) where
-  pub size_none : (k ≡ 3 → ⊥) → 0 ≡ default_size part
-  size_none h = rw (← e, ne_eqb k 3 h)
-
-  pub size-some : k ≡ 3 → 4 ≡ default_size part
-  size-some h = rw (← e, eq-eqb k 3 h)
-
-  pub answer-none : (k ≡ 3 → ⊥) → Silent ≡ default_answer (default_in part)
-  answer-none h = rw (← e, ne_eqb k 3 h)
-
-  pub answer-some : k ≡ 3 → {a : Answer} → a ≡ from_number (get_or part 3 0) → a ≡ default_answer (default_in part)
-  answer-some h q = rw (← e, eq-eqb k 3 h) q
-
-  pub fault-none : (k ≡ 3 → ⊥) → {r : Refusal} → r ≡ none → r ≡ default_fault part
+  pub fault-none : (k ≡ 3 → ⊥) → {r : Numbers} → r ≡ none → r ≡ default_fault part
   unfolding default_fault
   fault-none h q = rw (← e, ne_eqb k 3 h) q
 
   module _ (here : k ≡ 3) {header : Bool} (f : header ≡ short_header part) where
-    pub fault-short : header ≡ true → {r : Refusal} → r ≡ refused SHORT 4 → r ≡ default_fault part
+    pub fault-short : header ≡ true → {r : Numbers} → r ≡ refused SHORT 4 → r ≡ default_fault part
     unfolding default_fault
     fault-short h q = rw (← e, eq-eqb k 3 here, ← f, h) q
 
     module _ (whole : header ≡ false) {l : ℕ} (g : l ≡ size part) where
-      pub fault-length : (l ≡ 1 → ⊥) → {r : Refusal} → r ≡ refused LEN 4 → r ≡ default_fault part
+      pub fault-length : (l ≡ 1 → ⊥) → {r : Numbers} → r ≡ refused LEN 4 → r ≡ default_fault part
       unfolding default_fault
       fault-length h q = rw (← e, eq-eqb k 3 here, ← f, whole, ← g, ne_eqb l 1 h) q
 
@@ -77,30 +61,23 @@ module _ (part : List ℕ) {k : ℕ} (e : k ≡ tag part) where
         fault_last :
             (b : Bool) →
             cut ≡ b →
-            {r : Refusal} →
+            {r : Numbers} →
             r ≡ cond b (refused SHORT 4) (cond (ltb 3 (get_or part 3 0)) (refused VALUE 7) none) →
             r ≡ default_fault part
         unfolding default_fault
         fault_last b h q = rw (← e, eq-eqb k 3 here, ← f, whole, ← g, eq-eqb l 1 one, ← i, h) q
 
-        pub fault_cut : cut ≡ true → {r : Refusal} → r ≡ refused SHORT 4 → r ≡ default_fault part
+        pub fault_cut : cut ≡ true → {r : Numbers} → r ≡ refused SHORT 4 → r ≡ default_fault part
         fault_cut h q = fault_last true h q
 
-        pub fault-value : cut ≡ false → 3 < get_or part 3 0 → {r : Refusal} → r ≡ refused VALUE 7 → r ≡ default_fault part
+        pub fault-value : cut ≡ false → 3 < get_or part 3 0 → {r : Numbers} → r ≡ refused VALUE 7 → r ≡ default_fault part
         fault-value h v q = fault_last false h (rw (lt-ltb 3 (get_or part 3 0) v) q)
 
-        pub fault-clear : cut ≡ false → get_or part 3 0 ≤ 3 → {r : Refusal} → r ≡ none → r ≡ default_fault part
+        pub fault-clear : cut ≡ false → get_or part 3 0 ≤ 3 → {r : Numbers} → r ≡ none → r ≡ default_fault part
         fault-clear h v q = fault_last false h (rw (le-ltb 3 (get_or part 3 0) v) q)
 
 pub value-inside : (part : List ℕ) {cut : Bool} → cut ≡ short_value 1 part → cut ≡ false → 3 < length part
 value-inside part i h = let l : 4 ≤ length part = ltb-false (length part) 4 (sym i ∙ h) in omega arith
 
-pub answer_cut : (part : List ℕ) → length part ≤ 3 → Silent ≡ default_answer (default_in part)
-answer_cut part l = go (has_default part)
-  where
-    go : (b : Bool) → Silent ≡ default_answer (cond b (written (from_number (get_or part 3 0))) unwritten)
-    go true = rw (get_or-eq_default part 0 {n = 3} l)
-    go false = refl
-
--- What `fault` returns, check by check.
+-- What `check` returns, check by check.
 pub ruleset fault_laws = (fault-none, fault-short, fault-length, fault_cut, value-inside, fault-value, fault-clear)

@@ -1,7 +1,6 @@
 -- A table's default: what it is, its field, and how the part of a table behind its columns field is read for one.
 use Rattle.std.specs.Prelude.{ℕ, Bool, cond, List, [], ◌∷◌, ltb, eqb, get_or}
-use Rattle.refusals.specs.Meaning.{none, refused, SHORT, LEN, VALUE}
-use Rattle.refusals.specs.declared.Refusal.{Refusal}
+use Rattle.refusals.specs.Meaning.{Numbers, none, refused, SHORT, LEN, VALUE}
 use Rattle.fields.specs.Meaning.{field, tag, short_header, short_value}
 use Rattle.answers.specs.Meaning.{number, from_number}
 use Rattle.answers.specs.declared.Answer.{Answer}
@@ -35,7 +34,7 @@ abbrev pub default_in : List ℕ → Default
 default_in part = cond (has_default part) (written (from_number (get_or part 3 0))) unwritten
 
 -- The faults of a default in the order of document 01, with its offset 4: "a length other than 1 is LEN, a value above 3 is VALUE."
-unfoldable pub default_fault : List ℕ → Refusal
+unfoldable pub default_fault : List ℕ → Numbers
 default_fault part =
     cond (has_default part)
     (cond (short_header part) (refused SHORT 4)

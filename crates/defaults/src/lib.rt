@@ -8,11 +8,12 @@
 #![tactic(auto)]
 
 ghost use Rattle.std.specs.Prelude.{◌≡◌};
+ghost use Rattle.refusals.specs.Meaning.{checked};
 ghost use Rattle.defaults.specs.Meaning.{default_answer, default_size, default_in, default_fault};
 
 use answers::Answer;
 use fields::HEADER;
-use refusals::{LEN, Refusal, SHORT, VALUE, none, refused};
+use refusals::{Kind, Refusal};
 
 // Its tag, the offset in the table at which it stands, and that of its value.
 const DEFAULT: u8 = 3;
@@ -31,27 +32,27 @@ pub fn size(part: &[u8]) -> usize
     HEADER + 1
 }
 
-// What is wrong with the default at the front of a part.
+// Is what stands at the front of a part a default, if its tag says so?
 #[tactic(auto, using(crate::proofs::DefaultFields::fault_laws))]
-pub fn fault(part: &[u8]) -> Refusal
-    ensures { result ≡ default_fault part.now }
+pub fn check(part: &[u8]) -> Result<(), Refusal>
+    ensures { checked result ≡ default_fault part.now }
 {
     if fields::tag(part) != DEFAULT {
-        return none();
+        return Ok(());
     }
     if fields::short_header(part) {
-        return refused(SHORT, OFFSET);
+        return Err(Refusal::at(Kind::Short, OFFSET));
     }
     if fields::size(part) != 1 {
-        return refused(LEN, OFFSET);
+        return Err(Refusal::at(Kind::Len, OFFSET));
     }
     if fields::short_value(part, 1) {
-        return refused(SHORT, OFFSET);
+        return Err(Refusal::at(Kind::Short, OFFSET));
     }
     if part[HEADER] > 3 {
-        return refused(VALUE, VALUE_OFFSET);
+        return Err(Refusal::at(Kind::Value, VALUE_OFFSET));
     }
-    none()
+    Ok(())
 }
 
 // The default's answer.
@@ -64,5 +65,5 @@ pub fn answer(part: &[u8]) -> Answer
     if fields::tag(part) != DEFAULT {
         return Answer::Silent;
     }
-    answers::from_number(part[HEADER])
+    Answer::from(part[HEADER])
 }

@@ -1,5 +1,4 @@
--- The ways out of `act`, and what they mean (acting): the number that `act` makes shows the answers that a node which is not
--- refused leaves on the stack.
+-- What `act` makes (acting): its number shows the answers that a node which is not refused leaves on the stack.
 use Prim.Native.Nat.{ℕ, suc, ◌+◌, ◌-◌, ◌*◌, ◌/◌, ◌%◌, ◌^◌, ◌<◌}
 use mathlib.Core.Path.{◌≡◌, refl, sym, ◌∙◌}
 use mathlib.Core.List.{List, ◌∷◌}
@@ -19,42 +18,10 @@ use Rattle.running.proofs.Turning.{turned_by-number, turned_by-rest}
 use Rattle.evaluator.specs.Inside.{view, acted, Ready, Small, Within}
 use Rattle.evaluator.proofs.Digits.{fits_more, fits_less, fits_less_two, view-put, view-top, view-two}
 
-pub column-within : {node : Node} {k n : ℕ} → Within node n → node ≡ Column k → k < n
-column-within {node} {k} w e = w.within k e
+pub column_within : {node : Node} {k n : ℕ} → Within node n → node ≡ Column k → k < n
+column_within {node} {k} w e = w.within k e
 
--- the ways out
-module _ (s : List ℕ) (times stack : ℕ) {node : Node} {r : ℕ} where
-  pub acted-constant : {a : Answer} → node ≡ Constant a → r ≡ stack * 4 + number a → r ≡ acted s node times stack
-  unfolding acted
-  acted-constant e g = rw e g
-
-  pub acted-column : {k : ℕ} → node ≡ Column k → r ≡ stack * 4 + (get_or s k 0 % 4 + times % 4) % 4 → r ≡ acted s node times stack
-  unfolding acted
-  acted-column e g = rw e g
-
-  pub acted-negate : node ≡ Negate → r ≡ stack / 4 * 4 + number (negate (from_number (stack % 4))) → r ≡ acted s node times stack
-  unfolding acted
-  acted-negate e g = rw e g
-
-  module _ {x q : Answer} (g : q ≡ from_number (stack % 4)) where
-    pub acted-turn : node ≡ Turn → x ≡ turn q → r ≡ stack / 4 * 4 + number x → r ≡ acted s node times stack
-    unfolding acted
-    acted-turn e o h = rw (e, ← g, ← o) h
-
-    module _ {p : Answer} (f : p ≡ from_number (stack / 4 % 4)) where
-      pub acted-meet : node ≡ Meet → x ≡ meet p q → r ≡ stack / 16 * 4 + number x → r ≡ acted s node times stack
-      unfolding acted
-      acted-meet e o h = rw (e, ← f, ← g, ← o) h
-
-      pub acted-join : node ≡ Join → x ≡ join p q → r ≡ stack / 16 * 4 + number x → r ≡ acted s node times stack
-      unfolding acted
-      acted-join e o h = rw (e, ← f, ← g, ← o) h
-
-pub acted_foreign : (s : List ℕ) (times stack : ℕ) {node : Node} → node ≡ Foreign → stack ≡ acted s node times stack
-unfolding acted
-acted_foreign s times stack e = rw e
-
--- what they mean, at the height to which the node leads
+-- at the height to which the node leads
 pub record Acted (bytes : List ℕ) (node : Node) (times stack height : ℕ) : Type 0 where
   pub below : acted bytes node times stack < 4 ^ (climb full (length bytes) node height).height
   pub holds :

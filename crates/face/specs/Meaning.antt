@@ -1,16 +1,18 @@
 -- The replies of the C face: the numbers of the replies that the functions behind it give, each 64 bits wide.
 use Rattle.std.specs.Prelude.{cond}
-use Rattle.answers.specs.Meaning.{number}
-use Rattle.answers.specs.declared.Reply.{Reply}
-use Rattle.operands.specs.declared.Related.{Related}
+use Rattle.answers.specs.Meaning.{Reply, number}
+use Rattle.operands.specs.Meaning.{Related}
 use Rattle.situations.specs.declared.Situation.{Situation}
-use Rattle.situations.specs.declared.Merged.{Merged}
-use Rattle.notices.specs.declared.Noticed.{Noticed}
-use Rattle.compiler.specs.declared.Compiled.{Compiled}
-use Rattle.growth.specs.declared.Growth.{Growth}
-use Rattle.listing.specs.declared.Written.{Written}
-use Rattle.voices.specs.declared.Heard.{Heard}
-use Rattle.weeks.specs.declared.Week.{Week}
+use Rattle.situations.specs.Meaning.{Merged}
+use Rattle.notices.specs.Meaning.{Noticed}
+use Rattle.compiler.specs.Meaning.{Compiled}
+use Rattle.growth.specs.Meaning.{Growth}
+use Rattle.listing.specs.Meaning.{Written}
+use Rattle.voices.specs.Meaning.{Heard}
+use Rattle.weeks.specs.Meaning.{Week}
+use Rattle.refusals.specs.Meaning.{kind_number}
+use Rattle.refusals.specs.declared.Refusal.{Refusal}
+use Rattle.face.specs.declared.Three.{Three}
 use Rattle.face.specs.declared.CarmAnswer.{CarmAnswer}
 use Rattle.face.specs.declared.CarmCompiled.{CarmCompiled}
 use Rattle.face.specs.declared.CarmSituation.{CarmSituation}
@@ -20,6 +22,10 @@ use Rattle.face.specs.declared.CarmNoticed.{CarmNoticed}
 use Rattle.face.specs.declared.CarmHeard.{CarmHeard}
 use Rattle.face.specs.declared.CarmWeek.{CarmWeek}
 use Rattle.face.specs.declared.CarmWritten.{CarmWritten}
+
+-- The three numbers of a refusal.
+abbrev pub three : Refusal → Three
+three r = record { number = kind_number r.kind; place = r.place; second = r.second }
 
 -- "Every reply starts with the three numbers of document 01: number (0 is success), place, second."
 abbrev pub answer_face : Reply → CarmAnswer

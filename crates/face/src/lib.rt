@@ -1,25 +1,30 @@
-// The numbers of the C face: its structs, and our replies turned into them. include/carmuspeno.h declares the structs.
+// The numbers of the C face: its structs, and our results turned into them. include/carmuspeno.h declares the structs.
 //
-// It promises that each function gives the numbers of the reply that it is handed, each 64 bits wide, and nothing else.
-// A situation goes both ways. What is turned is taken as it comes, lawful or not.
-// It refuses nothing itself: number, place and second number are those of the reply.
+// It promises that each conversion gives the numbers of the reply that its result is, each 64 bits wide, and nothing else.
+// A situation goes both ways, lawful or not.
+// It refuses nothing itself: number, place and second number are those of the refusal, and 0 where there is none.
 
 #![tactic(auto)]
 
-ghost use Rattle.std.specs.Prelude.{◌≡◌};
-ghost use Rattle.operands.specs.Meaning.{one_of, two_of};
-ghost use Rattle.face.specs.Meaning.{answer_face, contained_face, compiled_face, situation_face, situation_behind};
-ghost use Rattle.face.specs.Meaning.{merged_face, growth_face, noticed_face, heard_face, week_face, written_face};
+ghost use Rattle.std.specs.Prelude.{◌≡◌, []};
+ghost use Rattle.answers.specs.Meaning.{answered};
+ghost use Rattle.operands.specs.Meaning.{related};
+ghost use Rattle.situations.specs.Meaning.{by_value, merged};
+ghost use Rattle.notices.specs.Meaning.{facts_read};
+ghost use Rattle.voices.specs.Meaning.{may_answer};
+ghost use Rattle.weeks.specs.Meaning.{counted};
+ghost use Rattle.compiler.specs.Meaning.{compiled};
+ghost use Rattle.growth.specs.Meaning.{growth_told};
+ghost use Rattle.listing.specs.Meaning.{wrote};
+ghost use Rattle.face.specs.Meaning.{answer_face, contained_face, compiled_face, situation_face, situation_behind, merged_face, growth_face, noticed_face};
+ghost use Rattle.face.specs.Meaning.{heard_face, week_face, written_face, three};
 
-use answers::Reply;
-use answers::operators::{One, Two};
-use compiler::Compiled;
-use growth::Growth;
-use listing::Written;
-use notices::Noticed;
-use operands::Related;
-use situations::{Merged, Situation};
-use voices::Heard;
+use answers::Answer;
+use compiler::Sizes;
+use growth::Verdict;
+use refusals::Refusal;
+use situations::{Situation, Unmerged};
+use voices::Possible;
 use weeks::Week;
 
 #[repr(C)]
@@ -116,154 +121,304 @@ pub struct CarmWritten {
     pub length: u64,
 }
 
-pub fn answer_face(reply: Reply) -> CarmAnswer
-    ensures { result ≡ answer_face reply }
-{
-    let answer = reply.answer;
-    CarmAnswer {
-        number: reply.refusal.number as u64,
-        place: reply.refusal.place as u64,
-        second: reply.refusal.second as u64,
-        answer: answers::number(answer) as u64,
+// The three numbers that every reply starts with, as wide as C has them: of a refusal.
+#[derive(Clone, Copy)]
+struct Three {
+    number: u64,
+    place: u64,
+    second: u64,
+}
+
+impl From<Refusal> for Three {
+    ghost from_gives = { λ refusal numbers. numbers ≡ three refusal };
+
+    fn from(refusal: Refusal) -> Three {
+        Three {
+            number: u64::from(u8::from(refusal.kind)),
+            place: refusal.place as u64,
+            second: refusal.second as u64,
+        }
     }
 }
 
-// An operator of one operand.
-pub fn one(operator: One, p: u8) -> CarmAnswer
-    ensures { result ≡ answer_face (one_of operator p) }
-{
-    answer_face(operands::one(operator, p))
-}
+impl From<Result<Answer, Refusal>> for CarmAnswer {
+    ghost from_gives = { λ reply face. face ≡ answer_face (answered reply) };
 
-// An operator of two operands.
-pub fn two(operator: Two, p: u8, q: u8) -> CarmAnswer
-    ensures { result ≡ answer_face (two_of operator p q) }
-{
-    answer_face(operands::two(operator, p, q))
+    fn from(reply: Result<Answer, Refusal>) -> CarmAnswer {
+        match reply {
+            Ok(answer) => CarmAnswer {
+                number: 0,
+                place: 0,
+                second: 0,
+                answer: u64::from(u8::from(answer)),
+            },
+            Err(refusal) => {
+                let three = Three::from(refusal);
+                CarmAnswer {
+                    number: three.number,
+                    place: three.place,
+                    second: three.second,
+                    answer: 0,
+                }
+            }
+        }
+    }
 }
 
 // 1 where p is contained in q, else 0.
-pub fn contained_face(related: Related) -> CarmAnswer
-    ensures { result ≡ contained_face related }
-{
-    CarmAnswer {
-        number: related.refusal.number as u64,
-        place: related.refusal.place as u64,
-        second: related.refusal.second as u64,
-        answer: related.contained as u64,
+impl From<Result<bool, Refusal>> for CarmAnswer {
+    ghost from_gives = { λ reply face. face ≡ contained_face (related reply) };
+
+    fn from(reply: Result<bool, Refusal>) -> CarmAnswer {
+        match reply {
+            Ok(contained) => CarmAnswer {
+                number: 0,
+                place: 0,
+                second: 0,
+                answer: u64::from(contained),
+            },
+            Err(refusal) => {
+                let three = Three::from(refusal);
+                CarmAnswer {
+                    number: three.number,
+                    place: three.place,
+                    second: three.second,
+                    answer: 0,
+                }
+            }
+        }
     }
 }
 
-pub fn compiled_face(compiled: Compiled) -> CarmCompiled
-    ensures { result ≡ compiled_face compiled }
-{
-    CarmCompiled {
-        number: compiled.refusal.number as u64,
-        place: compiled.refusal.place as u64,
-        second: compiled.refusal.second as u64,
-        columns: compiled.columns as u64,
-        rows: compiled.rows as u64,
-        nodes: compiled.nodes as u64,
+impl From<Result<Sizes, Refusal>> for CarmCompiled {
+    ghost from_gives = { λ reply face. face ≡ compiled_face (compiled reply) };
+
+    fn from(reply: Result<Sizes, Refusal>) -> CarmCompiled {
+        match reply {
+            Ok(sizes) => CarmCompiled {
+                number: 0,
+                place: 0,
+                second: 0,
+                columns: sizes.columns as u64,
+                rows: sizes.rows as u64,
+                nodes: sizes.nodes as u64,
+            },
+            Err(refusal) => {
+                let three = Three::from(refusal);
+                CarmCompiled {
+                    number: three.number,
+                    place: three.place,
+                    second: three.second,
+                    columns: 0,
+                    rows: 0,
+                    nodes: 0,
+                }
+            }
+        }
     }
 }
 
-pub fn situation_behind(s: CarmSituation) -> Situation
-    ensures { result ≡ situation_behind s }
-{
-    let answers = s.answers;
-    Situation {
-        length: s.length as usize,
-        answers,
+impl From<CarmSituation> for Situation {
+    ghost from_gives = { λ face s. s ≡ situation_behind face };
+
+    fn from(s: CarmSituation) -> Situation {
+        let answers = s.answers;
+        Situation {
+            length: s.length as usize,
+            answers,
+        }
     }
 }
 
-fn situation_face(s: Situation) -> CarmSituation
-    ensures { result ≡ situation_face s }
+impl From<Situation> for CarmSituation {
+    ghost from_gives = { λ s face. face ≡ situation_face s };
+
+    fn from(s: Situation) -> CarmSituation {
+        let answers = s.answers;
+        CarmSituation {
+            length: s.length as u64,
+            answers,
+        }
+    }
+}
+
+// A refused merge hands back its first situation.
+impl From<Result<Situation, Unmerged>> for CarmMerged {
+    ghost from_gives = { λ reply face. face ≡ merged_face (merged reply) };
+
+    fn from(reply: Result<Situation, Unmerged>) -> CarmMerged {
+        match reply {
+            Ok(situation) => CarmMerged {
+                number: 0,
+                place: 0,
+                second: 0,
+                situation: CarmSituation::from(situation),
+            },
+            Err(unmerged) => {
+                let three = Three::from(unmerged.refusal);
+                let situation = unmerged.situation;
+                CarmMerged {
+                    number: three.number,
+                    place: three.place,
+                    second: three.second,
+                    situation: CarmSituation::from(situation),
+                }
+            }
+        }
+    }
+}
+
+// What stands where no step is shown.
+fn nowhere() -> CarmSituation
+    ensures { result ≡ situation_face (by_value []) }
 {
-    let answers = s.answers;
     CarmSituation {
-        length: s.length as u64,
-        answers,
+        length: 0,
+        answers: [0; 6],
     }
 }
 
-pub fn merged_face(merged: Merged) -> CarmMerged
-    ensures { result ≡ merged_face merged }
-{
-    let situation = merged.situation;
-    CarmMerged {
-        number: merged.refusal.number as u64,
-        place: merged.refusal.place as u64,
-        second: merged.refusal.second as u64,
-        situation: situation_face(situation),
+impl From<Result<Verdict, Refusal>> for CarmGrowth {
+    ghost from_gives = { λ reply face. face ≡ growth_face (growth_told reply) };
+
+    fn from(reply: Result<Verdict, Refusal>) -> CarmGrowth {
+        match reply {
+            Ok(Verdict::Yes) => CarmGrowth {
+                number: 0,
+                place: 0,
+                second: 0,
+                verdict: 1,
+                situation: nowhere(),
+                column: 0,
+                answer: 0,
+            },
+            Ok(Verdict::No(fall)) => {
+                let situation = fall.situation;
+                let answer = fall.answer;
+                CarmGrowth {
+                    number: 0,
+                    place: 0,
+                    second: 0,
+                    verdict: 2,
+                    situation: CarmSituation::from(situation),
+                    column: fall.column as u64,
+                    answer: u64::from(u8::from(answer)),
+                }
+            }
+            Err(refusal) => {
+                let three = Three::from(refusal);
+                CarmGrowth {
+                    number: three.number,
+                    place: three.place,
+                    second: three.second,
+                    verdict: 0,
+                    situation: nowhere(),
+                    column: 0,
+                    answer: 0,
+                }
+            }
+        }
     }
 }
 
-pub fn growth_face(growth: Growth) -> CarmGrowth
-    ensures { result ≡ growth_face growth }
-{
-    let situation = growth.situation;
-    CarmGrowth {
-        number: growth.refusal.number as u64,
-        place: growth.refusal.place as u64,
-        second: growth.refusal.second as u64,
-        verdict: growth.verdict as u64,
-        situation: situation_face(situation),
-        column: growth.column as u64,
-        answer: growth.answer as u64,
+impl From<Result<usize, Refusal>> for CarmNoticed {
+    ghost from_gives = { λ reply face. face ≡ noticed_face (facts_read reply) };
+
+    fn from(reply: Result<usize, Refusal>) -> CarmNoticed {
+        match reply {
+            Ok(facts) => CarmNoticed {
+                number: 0,
+                place: 0,
+                second: 0,
+                facts: facts as u64,
+            },
+            Err(refusal) => {
+                let three = Three::from(refusal);
+                CarmNoticed {
+                    number: three.number,
+                    place: three.place,
+                    second: three.second,
+                    facts: 0,
+                }
+            }
+        }
     }
 }
 
-pub fn noticed_face(noticed: Noticed) -> CarmNoticed
-    ensures { result ≡ noticed_face noticed }
-{
-    CarmNoticed {
-        number: noticed.refusal.number as u64,
-        place: noticed.refusal.place as u64,
-        second: noticed.refusal.second as u64,
-        facts: noticed.facts as u64,
+impl From<Result<Possible, Refusal>> for CarmHeard {
+    ghost from_gives = { λ reply face. face ≡ heard_face (may_answer reply) };
+
+    fn from(reply: Result<Possible, Refusal>) -> CarmHeard {
+        match reply {
+            Ok(possible) => CarmHeard {
+                number: 0,
+                place: 0,
+                second: 0,
+                set: u64::from(possible.set),
+                answer: u64::from(u8::from(possible.answer)),
+            },
+            Err(refusal) => {
+                let three = Three::from(refusal);
+                CarmHeard {
+                    number: three.number,
+                    place: three.place,
+                    second: three.second,
+                    set: 0,
+                    answer: 0,
+                }
+            }
+        }
     }
 }
 
-pub fn heard_face(heard: Heard) -> CarmHeard
-    ensures { result ≡ heard_face heard }
-{
-    let answer = heard.answer;
-    CarmHeard {
-        number: heard.refusal.number as u64,
-        place: heard.refusal.place as u64,
-        second: heard.refusal.second as u64,
-        set: heard.set as u64,
-        answer: answers::number(answer) as u64,
+impl From<Week> for CarmWeek {
+    ghost from_gives = { λ week face. face ≡ week_face (counted week) };
+
+    fn from(week: Week) -> CarmWeek {
+        let three = match week.refused {
+            Some(refusal) => Three::from(refusal),
+            None => Three {
+                number: 0,
+                place: 0,
+                second: 0,
+            },
+        };
+        let counts = week.counts;
+        let by_number = counts.numbers;
+        CarmWeek {
+            number: three.number,
+            place: three.place,
+            second: three.second,
+            silent: counts.silent,
+            bury: counts.bury,
+            keep: counts.keep,
+            clash: counts.clash,
+            refused: counts.refused,
+            by_number,
+        }
     }
 }
 
-pub fn week_face(week: Week) -> CarmWeek
-    ensures { result ≡ week_face week }
-{
-    let refusal = week.refusal;
-    let counts = week.counts;
-    let by_number = counts.numbers;
-    CarmWeek {
-        number: refusal.number as u64,
-        place: refusal.place as u64,
-        second: refusal.second as u64,
-        silent: counts.silent,
-        bury: counts.bury,
-        keep: counts.keep,
-        clash: counts.clash,
-        refused: counts.refused,
-        by_number,
-    }
-}
+impl From<Result<usize, Refusal>> for CarmWritten {
+    ghost from_gives = { λ reply face. face ≡ written_face (wrote reply) };
 
-pub fn written_face(written: Written) -> CarmWritten
-    ensures { result ≡ written_face written }
-{
-    CarmWritten {
-        number: written.refusal.number as u64,
-        place: written.refusal.place as u64,
-        second: written.refusal.second as u64,
-        length: written.length as u64,
+    fn from(reply: Result<usize, Refusal>) -> CarmWritten {
+        match reply {
+            Ok(length) => CarmWritten {
+                number: 0,
+                place: 0,
+                second: 0,
+                length: length as u64,
+            },
+            Err(refusal) => {
+                let three = Three::from(refusal);
+                CarmWritten {
+                    number: three.number,
+                    place: three.place,
+                    second: three.second,
+                    length: 0,
+                }
+            }
+        }
     }
 }

@@ -7,8 +7,7 @@ use lib.Dec.{ltb, eqb}
 use lib.ListN.{length}
 use borrow.Author.Tests.{lt-ltb, le-ltb, eq-eqb, ne_eqb, ltb-false, eqb-true, not-false}
 use native.Mathlib.Omega.{arith}
-use Rattle.refusals.specs.Meaning.{none, refused, SHORT, START, LEN, VALUE}
-use Rattle.refusals.specs.declared.Refusal.{Refusal}
+use Rattle.refusals.specs.Meaning.{Numbers, none, refused, SHORT, START, LEN, VALUE}
 use Rattle.fields.specs.Meaning.{tag, size, short_header, short_value}
 use Rattle.situations.specs.Meaning.{outside}
 use Rattle.faults.specs.Meaning.{columns_of, other_tag, other_length, columns_fault}
@@ -52,7 +51,7 @@ columns_fault-sound t h =
     }
 
 -- a number of columns
-module _ (n : ℕ) {r : Refusal} where
+module _ (n : ℕ) {r : Numbers} where
   pub range_few : n < 1 → r ≡ refused VALUE 3 → r ≡ range_fault n
   range_few h q = rw (lt-ltb n 1 h) q
 
@@ -66,7 +65,7 @@ pub column-inside : (t : List ℕ) {cut : Bool} → cut ≡ short_value 1 t → 
 column-inside t e h = let l : 4 ≤ length t = ltb-false (length t) 4 (sym e ∙ h) in omega arith
 
 -- the ways out of its tests, whose results the code has in hand
-module _ (t : List ℕ) {r : Refusal} where
+module _ (t : List ℕ) {r : Numbers} where
   pub columns_fault_empty : length t ≡ 0 → r ≡ refused START 0 → r ≡ columns_fault t
   unfolding columns_fault
   columns_fault_empty h q = rw (eq-eqb (length t) 0 h) q
@@ -97,3 +96,8 @@ module _ (t : List ℕ) {r : Refusal} where
 
           pub columns_fault_range : cut ≡ false → r ≡ range_fault (columns_of t) → r ≡ columns_fault t
           columns_fault_range h q = columns_fault_last false h q
+
+-- What `check_range` and `check_columns` return, check by check.
+pub ruleset range_laws = (range_few, range_many, range_none)
+
+pub ruleset columns_laws = (columns_fault_empty, columns_fault-short, columns_fault-start, columns_fault-length, columns_fault_cut, columns_fault_range, column-inside)

@@ -3,20 +3,23 @@ use Prim.Native.Nat.{ℕ, ◌+◌, ◌-◌, ◌≤◌, ◌<◌}
 use mathlib.Core.Path.{◌≡◌, refl, sym, ◌∙◌}
 use mathlib.Core.Bool.{Bool, true, false, cond}
 use mathlib.Core.List.{List}
-use lib.Dec.{eqb}
-use lib.ListN.{length, take, drop, get_or}
+use lib.Dec.{ltb, eqb}
+use lib.ListN.{length, take, drop, get_or, length-take, length-drop}
 use borrow.Author.Tests.{lt-ltb, le-ltb, eq-eqb, ne_eqb, ltb-false, eqb-true, eqb-false, not-false}
 use native.Mathlib.Nat.{add-sub_cancel_left}
 use native.Mathlib.Omega.{arith}
-use Rattle.refusals.specs.Meaning.{none, refused, SHORT, TAG, LEN, VALUE, ROWS}
+use Rattle.std.specs.Prelude.{Option, Some, None}
+use Rattle.refusals.specs.Meaning.{Numbers, none, refused, numbers, refusal_at, SHORT, TAG, LEN, ROWS}
+use Rattle.refusals.specs.declared.Kind.TheVariants as kind
 use Rattle.refusals.specs.declared.Refusal.{Refusal}
-use Rattle.fields.specs.Meaning.{tag, size, short_header, short_value, first_above}
+use Rattle.fields.specs.Meaning.{tag, size, short_header, short_value, first_above, above}
+use Rattle.fields.proofs.Above.{above-found, above_none}
 use Rattle.faults.specs.Meaning.{other_tag, row_too_many, other_length, cells_at, value_fault, row_fault}
 use Rattle.faults.specs.Inside.{length_fault, SoundRow}
 
 -- no fault means that every test was passed
 row-passed :
-    (at : ℕ) (a b c d e : Bool) (v : Refusal) →
+    (at : ℕ) (a b c d e : Bool) (v : Numbers) →
     (cond a (refused SHORT at)
     (cond b (refused TAG at)
     (cond c (refused ROWS at)
@@ -49,7 +52,7 @@ pub row_inside : (n : ℕ) (rows : List ℕ) {cut : Bool} → cut ≡ short_valu
 row_inside n rows e h = let l : 3 + (n + 1) ≤ length rows = ltb-false (length rows) (3 + (n + 1)) (sym e ∙ h) in omega arith
 
 -- the ways out of its tests, whose results the code has in hand
-module _ (left n at : ℕ) (rows : List ℕ) {r : Refusal} {header : Bool} (e : header ≡ short_header rows) where
+module _ (left n at : ℕ) (rows : List ℕ) {r : Numbers} {header : Bool} (e : header ≡ short_header rows) where
   pub row_fault-short : header ≡ true → r ≡ refused SHORT at → r ≡ row_fault left n at rows
   unfolding row_fault
   row_fault-short h q = rw (sym e ∙ h) q
@@ -69,7 +72,7 @@ module _ (left n at : ℕ) (rows : List ℕ) {r : Refusal} {header : Bool} (e : 
       row_fault-rest more q = rw (sym e ∙ long, ← f, eq-eqb k 2 row, ne_eqb left 0 more) q
 
 -- the ways out of the tests of its length
-module _ (n at : ℕ) (row : List ℕ) {r : Refusal} (l : ℕ) (g : l ≡ size row) where
+module _ (n at : ℕ) (row : List ℕ) {r : Numbers} (l : ℕ) (g : l ≡ size row) where
   pub length_fault-length : (l ≡ n + 1 → ⊥) → r ≡ refused LEN at → r ≡ length_fault n at row
   length_fault-length h q = rw (← g, ne_eqb l (n + 1) h) q
 
@@ -81,21 +84,36 @@ module _ (n at : ℕ) (row : List ℕ) {r : Refusal} (l : ℕ) (g : l ≡ size r
     length_fault-values h q = rw (← g, eq-eqb l (n + 1) same, sym i ∙ h) q
 
 -- the ways out of the tests of its values
-module _ (n at : ℕ) (row : List ℕ) (k : ℕ) (e : k ≡ first_above 4 (take (3 + n - 3) (drop 3 row))) where
-  cell_is : first_above 4 (cells_at n row) ≡ k
-  cell_is = sym (rw (add-sub_cancel_left 3 n) at e)
+module _ (n at : ℕ) (row : List ℕ) {o : Option ℕ} (e : o ≡ above 4 (take (3 + n - 3) (drop 3 row))) (long : n + 4 ≤ length row) where
+  cells : o ≡ above 4 (cells_at n row)
+  cells = rw (add-sub_cancel_left 3 n) at e
 
-  pub value_fault_cell : {r : Refusal} → k < n → r ≡ refused VALUE (at + (3 + k)) → r ≡ value_fault n at row
+  width : length (cells_at n row) ≡ n
+  width = simp (length-take, length-drop) (omega arith)
+
+  pub value_fault_cell : {k : ℕ} (r : Refusal) → o ≡ Some k → r ≡ refusal_at kind.Value (at + 3 + k) → numbers r ≡ value_fault n at row
   unfolding value_fault
-  value_fault_cell h q = rw (cell_is, lt-ltb k n h) q
+  value_fault_cell {k} r h q =
+      let f = above-found 4 (cells_at n row) (sym cells ∙ h) in
+      let inside : ltb (first_above 4 (cells_at n row)) n ≡ true = rw width at f.0 in
+      let place : at + 3 + k ≡ at + (3 + k) = omega arith in
+      rw (q, inside, f.1, place)
 
-  pub value_fault-outcome : {r : Refusal} → n ≤ k → 3 < get_or row (3 + n) 0 → r ≡ refused VALUE (at + (3 + n)) → r ≡ value_fault n at row
-  unfolding value_fault
-  value_fault-outcome h l q = rw (cell_is, le-ltb k n h, lt-ltb 3 (get_or row (3 + n) 0) l) q
+  module _ (h : o ≡ None) where
+    passed : ltb (first_above 4 (cells_at n row)) n ≡ false
+    passed = rw width at (above_none 4 (cells_at n row) (sym cells ∙ h))
 
-  pub value_fault-none : {r : Refusal} → n ≤ k → get_or row (3 + n) 0 ≤ 3 → r ≡ none → r ≡ value_fault n at row
-  unfolding value_fault
-  value_fault-none h l q = rw (cell_is, le-ltb k n h, le-ltb 3 (get_or row (3 + n) 0) l) q
+    pub value_fault-outcome : (r : Refusal) → 3 < get_or row (3 + n) 0 → r ≡ refusal_at kind.Value (at + (3 + n)) → numbers r ≡ value_fault n at row
+    unfolding value_fault
+    value_fault-outcome r l q = rw (q, passed, lt-ltb 3 (get_or row (3 + n) 0) l)
 
--- What `row_fault` returns, check by check.
+    pub value_fault-none : get_or row (3 + n) 0 ≤ 3 → none ≡ value_fault n at row
+    unfolding value_fault
+    value_fault-none l = rw (passed, le-ltb 3 (get_or row (3 + n) 0) l)
+
+-- What `check_values`, `check_length` and `check_row` return, check by check.
+pub ruleset value_laws = (value_fault_cell, value_fault-outcome, value_fault-none)
+
+pub ruleset length_laws = (row_inside, length_fault-length, length_fault_cut, length_fault-values)
+
 pub ruleset row_fault_laws = (row_fault-short, row_fault-tag, row_fault-rows, row_fault-rest)

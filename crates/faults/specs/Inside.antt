@@ -1,17 +1,16 @@
 -- What the private functions say among themselves, and what is known of fields without a fault. Nothing here has to be believed.
 use Rattle.std.specs.Prelude.{ℕ, ◌+◌, ◌≤◌, ◌≡◌, cond, List, length}
-use Rattle.refusals.specs.Meaning.{none, refused, SHORT, LEN, VALUE}
-use Rattle.refusals.specs.declared.Refusal.{Refusal}
+use Rattle.refusals.specs.Meaning.{Numbers, none, refused, SHORT, LEN, VALUE}
 use Rattle.fields.specs.Meaning.{tag, size, short_value}
 use Rattle.situations.specs.Meaning.{outside}
 use Rattle.rows.specs.Meaning.{row_width}
 use Rattle.faults.specs.Meaning.{columns_of, other_length, value_fault}
 
 -- the last faults of the first field, and of a row
-abbrev pub range_fault : ℕ → Refusal
+abbrev pub range_fault : ℕ → Numbers
 range_fault columns = cond (outside columns) (refused VALUE 3) none
 
-abbrev pub length_fault : ℕ → ℕ → List ℕ → Refusal
+abbrev pub length_fault : ℕ → ℕ → List ℕ → Numbers
 length_fault n at row =
     cond (other_length (n + 1) row) (refused LEN at)
     (cond (short_value (n + 1) row) (refused SHORT at)

@@ -1,7 +1,6 @@
 -- What is wrong with one field of a table: the first one, and a row.
 use Rattle.std.specs.Prelude.{ℕ, ◌+◌, Bool, cond, not, List, ltb, eqb, length, take, drop, get_or}
-use Rattle.refusals.specs.Meaning.{none, refused, SHORT, START, TAG, LEN, VALUE, ROWS}
-use Rattle.refusals.specs.declared.Refusal.{Refusal}
+use Rattle.refusals.specs.Meaning.{Numbers, none, refused, SHORT, START, TAG, LEN, VALUE, ROWS}
 use Rattle.fields.specs.Meaning.{tag, size, short_header, short_value, first_above}
 use Rattle.situations.specs.Meaning.{outside}
 
@@ -27,13 +26,13 @@ other_length wanted s = not (eqb (size s) wanted)
 abbrev pub cells_at : ℕ → List ℕ → List ℕ
 cells_at n row = take n (drop 3 row)
 
-unfoldable pub value_fault : ℕ → ℕ → List ℕ → Refusal
+unfoldable pub value_fault : ℕ → ℕ → List ℕ → Numbers
 value_fault n at row =
     cond (ltb (first_above 4 (cells_at n row)) n) (refused VALUE (at + (3 + first_above 4 (cells_at n row))))
     (cond (ltb 3 (get_or row (3 + n) 0)) (refused VALUE (at + (3 + n))) none)
 
 -- "An input of no bytes is START at 0." Then the faults of the first field in their order, with its offset 0.
-unfoldable pub columns_fault : List ℕ → Refusal
+unfoldable pub columns_fault : List ℕ → Numbers
 columns_fault t =
     cond (eqb (length t) 0) (refused START 0)
     (cond (short_header t) (refused SHORT 0)
@@ -43,7 +42,7 @@ columns_fault t =
     (cond (outside (columns_of t)) (refused VALUE 3) none)))))
 
 -- The faults of the row that a part starts with in their order, with its offset in the table, where so many rows are left of the 64.
-unfoldable pub row_fault : ℕ → ℕ → ℕ → List ℕ → Refusal
+unfoldable pub row_fault : ℕ → ℕ → ℕ → List ℕ → Numbers
 row_fault left n at rows =
     cond (short_header rows) (refused SHORT at)
     (cond (other_tag 2 rows) (refused TAG at)

@@ -9,98 +9,98 @@
 #![tactic(auto)]
 
 ghost use Rattle.std.specs.Prelude.{◌≡◌, ◌+◌, ◌%◌, ◌≤◌, length};
+ghost use Rattle.refusals.specs.Meaning.{checked};
 ghost use Rattle.faults.specs.Meaning.{columns_fault, row_fault, value_fault};
 ghost use Rattle.faults.specs.Inside.{range_fault, length_fault};
 
 use fields::HEADER;
-use refusals::{LEN, ROWS, Refusal, SHORT, START, TAG, VALUE, none, refused};
+use refusals::{Kind, Refusal};
 use rows::MOST_COLUMNS;
 
 const OFFSETS: usize = 1024;
 
 const COLUMNS: usize = 8;
 
-// Is a number of columns out of range?
-fn range_fault(columns: u8) -> Refusal
-    ensures { result ≡ range_fault columns }
+// Is a number of columns in range?
+#[tactic(auto, using(crate::proofs::FirstField::range_laws))]
+fn check_range(columns: usize) -> Result<(), Refusal>
+    ensures { checked result ≡ range_fault columns }
 {
-    if columns < 1 {
-        return refused(VALUE, HEADER);
+    if !(1..=MOST_COLUMNS).contains(&columns) {
+        return Err(Refusal::at(Kind::Value, HEADER));
     }
-    if MOST_COLUMNS < columns as usize {
-        return refused(VALUE, HEADER);
-    }
-    none()
+    Ok(())
 }
 
-// What is wrong with the first field.
-pub fn columns_fault(table: &[u8]) -> Refusal
-    ensures { result ≡ columns_fault table.now }
+// Is the first field one of columns?
+#[tactic(auto, using(crate::proofs::FirstField::columns_laws))]
+pub fn check_columns(table: &[u8]) -> Result<(), Refusal>
+    ensures { checked result ≡ columns_fault table.now }
 {
-    if table.len() == 0 {
-        return refused(START, 0);
+    if table.is_empty() {
+        return Err(Refusal::at(Kind::Start, 0));
     }
     if fields::short_header(table) {
-        return refused(SHORT, 0);
+        return Err(Refusal::at(Kind::Short, 0));
     }
     if fields::tag(table) != 1 {
-        return refused(START, 0);
+        return Err(Refusal::at(Kind::Start, 0));
     }
     if fields::size(table) != 1 {
-        return refused(LEN, 0);
+        return Err(Refusal::at(Kind::Len, 0));
     }
     if fields::short_value(table, 1) {
-        return refused(SHORT, 0);
+        return Err(Refusal::at(Kind::Short, 0));
     }
-    range_fault(table[HEADER])
+    check_range(table[HEADER] as usize)
 }
 
-// Which of n cells behind a row's header, and of the outcome behind them, is out of range. The row stands at an offset of the table.
-fn value_fault(row: &[u8], n: usize, at: usize) -> Refusal
+// Are n cells behind a row's header, and the outcome behind them, in range? The row stands at an offset of the table.
+#[tactic(auto, using(crate::proofs::RowFaults::value_laws))]
+fn check_values(row: &[u8], n: usize, at: usize) -> Result<(), Refusal>
     requires { (at ≤ 1023) × (n + 4 ≤ length row.now) }
-    ensures { result ≡ value_fault n at row.now }
+    ensures { checked result ≡ value_fault n at row.now }
 {
     let outcome = HEADER + n;
-    let k = fields::first_above(&row[HEADER..outcome], 4);
-    if k < n {
-        let cell = HEADER + k;
-        return refused(VALUE, at + cell);
+    if let Some(cell) = fields::first_above(&row[HEADER..outcome], 4) {
+        return Err(Refusal::at(Kind::Value, at + HEADER + cell));
     }
     if row[outcome] > 3 {
-        return refused(VALUE, at + outcome);
+        return Err(Refusal::at(Kind::Value, at + outcome));
     }
-    none()
+    Ok(())
 }
 
-// What is wrong with the length and the value of a row's field.
-fn length_fault(row: &[u8], n: usize, at: usize) -> Refusal
+// Are the length and the value of a row's field right?
+#[tactic(auto, using(crate::proofs::RowFaults::length_laws))]
+fn check_length(row: &[u8], n: usize, at: usize) -> Result<(), Refusal>
     requires { (n ≤ 7) × (at ≤ 1023) }
-    ensures { result ≡ length_fault n at row.now }
+    ensures { checked result ≡ length_fault n at row.now }
 {
     let size = n + 1;
     if fields::size(row) != size {
-        return refused(LEN, at);
+        return Err(Refusal::at(Kind::Len, at));
     }
     if fields::short_value(row, size) {
-        return refused(SHORT, at);
+        return Err(Refusal::at(Kind::Short, at));
     }
-    value_fault(row, n, at)
+    check_values(row, n, at)
 }
 
-// What is wrong with the row that a part starts with, where so many rows may still come. It stands at an offset of the table.
+// Does a part start with a row, where so many rows may still come? It stands at an offset of the table.
 #[tactic(auto, using(crate::proofs::RowFaults::row_fault_laws))]
-pub fn row_fault(rows: &[u8], n: usize, at: usize, left: usize) -> Refusal
-    ensures { result ≡ row_fault left (n % 8) (at % 1024) rows.now }
+pub fn check_row(rows: &[u8], n: usize, at: usize, left: usize) -> Result<(), Refusal>
+    ensures { checked result ≡ row_fault left (n % 8) (at % 1024) rows.now }
 {
     let place = at % OFFSETS;
     if fields::short_header(rows) {
-        return refused(SHORT, place);
+        return Err(Refusal::at(Kind::Short, place));
     }
     if fields::tag(rows) != 2 {
-        return refused(TAG, place);
+        return Err(Refusal::at(Kind::Tag, place));
     }
     if left == 0 {
-        return refused(ROWS, place);
+        return Err(Refusal::at(Kind::Rows, place));
     }
-    length_fault(rows, n % COLUMNS, place)
+    check_length(rows, n % COLUMNS, place)
 }

@@ -1,17 +1,16 @@
 -- The first byte above a limit: what stands before it, lists without one, and the loop that looks for it.
 use Prim.Native.Nat.{ℕ, zero, suc, ◌+◌, ◌≤◌, ◌<◌}
-use mathlib.Core.Path.{◌≡◌, refl, sym, ◌∙◌}
+use mathlib.Core.Path.{◌≡◌, refl, sym, ap, ◌∙◌}
 use mathlib.Core.Bool.{Bool, true, false, cond}
 use mathlib.Core.List.{List, [], ◌∷◌}
-use lib.ListN.{length, drop, get_or, drop_of_length-le}
-use lib.Seq.{drop-cons}
+use lib.ListN.{length, get_or}
 use lib.Dec.{ltb}
-use borrow.Author.Tests.{lt-ltb, le-ltb, ltb-false}
-use native.Mathlib.Nat.{add-zero, zero-add}
-use native.Mathlib.Numerals.{add-one}
+use borrow.Author.Tests.{le-ltb, ltb-false}
 use native.Mathlib.Omega.{arith}
-use Rattle.fields.specs.Meaning.{first_above}
-use Rattle.fields.specs.Inside.{Passed}
+use Rattle.fields.specs.Meaning.{first_above, above}
+use Rattle.std.specs.Prelude.{Some, None}
+use Rattle.std.proofs.lemmas.Option.{cond_some, none-some}
+use Rattle.std.proofs.lemmas.List.Recursion.{is_position_or_len}
 
 -- what stands before the first byte above a limit, and a list without such a byte
 pub first_above_before : (limit : ℕ) (s : List ℕ) (k : ℕ) → k < first_above limit s → get_or s k 0 ≤ limit
@@ -35,21 +34,23 @@ unfolding first_above
 first_above-all limit [] h = refl
 first_above-all limit (b ∷ s) h = rw (le-ltb limit b (h 0 (omega arith)), first_above-all limit s (λ k l. h (suc k) (omega arith)))
 
--- the loop
-pub passed_none : (limit : ℕ) (s : List ℕ) → Passed limit s 0
-passed_none limit s = record { inside = omega arith; rest = zero-add _ }
+one_more : (n : ℕ) → suc n ≡ 1 + n
+one_more n = omega arith
 
-module _ (limit : ℕ) (s : List ℕ) (i : ℕ) (p : Passed limit s i) where
-  pub passed-more : i < length s → get_or s i 0 ≤ limit → Passed limit s (i + 1)
-  unfolding first_above
-  passed-more l h =
-      let e : i + suc (first_above limit (drop (suc i) s)) ≡ first_above limit s = rw (drop-cons s i 0 l, le-ltb limit (get_or s i 0) h) at p.rest in
-      record { inside = omega arith; rest = rw add-one (omega arith) }
+-- the library's search for a place finds it
+pub above_lem : (limit : ℕ) (s : List ℕ) → above limit s ≡ cond (ltb (first_above limit s) (length s)) (Some (first_above limit s)) None
+unfolding first_above
+above_lem limit s =
+    ap (λ k. cond (ltb k (length s)) (Some k) None)
+    (sym (is_position_or_len (first_above limit) (λ b. ltb limit b) refl (λ x xs. ap (cond (ltb limit x) 0) (one_more (first_above limit xs))) s))
 
-  pub passed-found : i < length s → limit < get_or s i 0 → i ≡ first_above limit s
-  unfolding first_above
-  passed-found l h = sym (add-zero i) ∙ (rw (drop-cons s i 0 l, lt-ltb limit (get_or s i 0) h) at p.rest)
+module _ (limit : ℕ) (s : List ℕ) where
+  pub above-found : {k : ℕ} → above limit s ≡ Some k → (ltb (first_above limit s) (length s) ≡ true) × (first_above limit s ≡ k)
+  above-found {k} e = cond_some (ltb (first_above limit s) (length s)) (first_above limit s) k (sym (above_lem limit s) ∙ e)
 
-  pub passed-all : length s ≤ i → i ≡ first_above limit s
-  unfolding first_above
-  passed-all l = sym (add-zero i) ∙ (rw (drop_of_length-le s {i = i} l) at p.rest)
+  pub above_none : above limit s ≡ None → ltb (first_above limit s) (length s) ≡ false
+  above_none e = cond-none (ltb (first_above limit s) (length s)) (sym (above_lem limit s) ∙ e)
+    where
+      cond-none : (b : Bool) → cond b (Some (first_above limit s)) None ≡ None → b ≡ false
+      cond-none true q = absurd (none-some _ (sym q))
+      cond-none false q = refl

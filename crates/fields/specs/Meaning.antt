@@ -1,5 +1,5 @@
 -- Fields and the numbers in them: what their bytes say, and which bytes say it.
-use Rattle.std.specs.Prelude.{ℕ, suc, ◌+◌, ◌*◌, ◌/◌, ◌%◌, ◌<◌, Bool, cond, List, [], ◌∷◌, ◌++◌, ltb, length, get_or}
+use Rattle.std.specs.Prelude.{ℕ, suc, ◌+◌, ◌*◌, ◌/◌, ◌%◌, ◌<◌, Bool, cond, List, [], ◌∷◌, ◌++◌, ltb, length, get_or, Option, position}
 
 -- The list's elements are bytes.
 abbrev pub Bytes : List ℕ → Type 0
@@ -50,3 +50,7 @@ short_value size s = ltb (length s) (3 + size)
 unfoldable pub first_above : ℕ → List ℕ → ℕ
 first_above limit [] = 0
 first_above limit (b ∷ bytes) = cond (ltb limit b) 0 (suc (first_above limit bytes))
+
+-- The same index, where there is such a byte; that it is the same is proved.
+abbrev pub above : ℕ → List ℕ → Option ℕ
+above limit bytes = position (λ b. ltb limit b) bytes

@@ -7,23 +7,16 @@
 #![tactic(auto)]
 
 ghost use Rattle.std.specs.Prelude.{◌≡◌, ◌<◌, get_or};
-ghost use Rattle.fields.specs.Meaning.{two, four, tag, size, short_header, short_value, first_above};
+ghost use Rattle.fields.specs.Meaning.{two, four, tag, size, short_header, short_value, above};
 
 // A tag and a length.
 pub const HEADER: usize = 3;
-
-// A byte as a number that can be reckoned with.
-fn wide(byte: u8) -> u32
-    ensures { (result ≡ byte) × (result < 256) }
-{
-    byte as u32
-}
 
 // Two bytes as a number, high byte first.
 pub fn two(high: u8, low: u8) -> u32
     ensures { (result ≡ two high low) × (result < 65536) }
 {
-    wide(high) * 256 + wide(low)
+    u32::from(high) * 256 + u32::from(low)
 }
 
 // Four bytes as a number, high byte first.
@@ -36,7 +29,7 @@ pub fn four(a: u8, b: u8, c: u8, d: u8) -> u32
 fn byte_at(bytes: &[u8], at: usize) -> u8
     ensures { result ≡ get_or bytes.now at 0 }
 {
-    if at < bytes.len() { bytes[at] } else { 0 }
+    bytes.get(at).copied().unwrap_or(0)
 }
 
 // Are there too few bytes for a header?
@@ -72,16 +65,9 @@ pub fn short_value(bytes: &[u8], size: usize) -> bool
     behind < size
 }
 
-// The index of the first byte above a limit, or the length.
-pub fn first_above(bytes: &[u8], limit: u8) -> usize
-    ensures { result ≡ first_above limit bytes.now }
+// The index of the first byte above a limit, if there is one.
+pub fn first_above(bytes: &[u8], limit: u8) -> Option<usize>
+    ensures { result ≡ above limit bytes.now }
 {
-    let mut i = 0;
-    while i < bytes.len() {
-        if bytes[i] > limit {
-            return i;
-        }
-        i += 1;
-    }
-    i
+    bytes.iter().position(|&byte| limit < byte)
 }

@@ -3,66 +3,62 @@
 
 #![tactic(auto)]
 
-use answers::operators::{One, Two};
 use answers::{Answer, operators};
+use std::fmt::Display;
 use std::io;
 
-fn digit(a: Answer) -> char {
-    match a {
-        Answer::Silent => '0',
-        Answer::Bury => '1',
-        Answer::Keep => '2',
-        Answer::Clash => '3',
+const ANSWERS: [Answer; 4] = [Answer::Silent, Answer::Bury, Answer::Keep, Answer::Clash];
+
+fn print_row<F: Fn(Answer) -> Answer>(rt: &impl Print, operator: F) -> io::Result<()>
+    requires { F.IsAlwaysCallable operator }
+{
+    let silent = u8::from(operator(Answer::Silent));
+    let bury = u8::from(operator(Answer::Bury));
+    let keep = u8::from(operator(Answer::Keep));
+    let clash = u8::from(operator(Answer::Clash));
+    println!(rt; "{silent} {bury} {keep} {clash}")
+}
+
+fn print_one<F: Fn(Answer) -> Answer>(rt: &impl Print, name: &str, operator: F) -> io::Result<()>
+    requires { F.IsAlwaysCallable operator }
+{
+    println!(rt; "{name}")?;
+    print_row(rt, operator)
+}
+
+fn print_two<F: Fn(Answer, Answer) -> Answer>(
+    rt: &impl Print,
+    name: impl Display + Drop,
+    operator: F,
+) -> io::Result<()>
+    requires { F.IsAlwaysCallable operator }
+{
+    rt.println(name)?;
+    for p in ANSWERS {
+        print_row(rt, |q| operator(p, q))?;
     }
-}
-
-fn print_row(rt: &impl Print, a: Answer, b: Answer, c: Answer, d: Answer) -> io::Result<()> {
-    println!(rt; "{} {} {} {}", digit(a), digit(b), digit(c), digit(d))
-}
-
-fn print_one(rt: &impl Print, name: &str, o: One) -> io::Result<()> {
-    println!(rt; "{name}")?;
-    print_row(
-        rt,
-        operators::apply_one(o, Answer::Silent),
-        operators::apply_one(o, Answer::Bury),
-        operators::apply_one(o, Answer::Keep),
-        operators::apply_one(o, Answer::Clash),
-    )
-}
-
-fn print_at(rt: &impl Print, o: Two, p: Answer) -> io::Result<()> {
-    print_row(
-        rt,
-        operators::apply_two(o, p, Answer::Silent),
-        operators::apply_two(o, p, Answer::Bury),
-        operators::apply_two(o, p, Answer::Keep),
-        operators::apply_two(o, p, Answer::Clash),
-    )
-}
-
-fn print_two(rt: &impl Print, name: &str, o: Two) -> io::Result<()> {
-    println!(rt; "{name}")?;
-    print_at(rt, o, Answer::Silent)?;
-    print_at(rt, o, Answer::Bury)?;
-    print_at(rt, o, Answer::Keep)?;
-    print_at(rt, o, Answer::Clash)
+    Ok(())
 }
 
 fn main(rt: HostRuntime) -> io::Result<()> {
-    print_one(&rt, "negate", One::Negate)?;
-    print_one(&rt, "turn", One::Turn)?;
-    print_one(&rt, "floor", One::Floor)?;
-    print_one(&rt, "ceiling", One::Ceiling)?;
-    print_two(&rt, "meet", Two::Meet)?;
-    print_two(&rt, "join", Two::Join)?;
-    print_two(&rt, "truth meet", Two::TruthMeet)?;
-    print_two(&rt, "truth join", Two::TruthJoin)?;
-    print_two(&rt, "implication", Two::Implication)?;
-    print_two(&rt, "guard", Two::Guard)?;
-    print_two(&rt, "priority", Two::Priority)?;
-    print_two(&rt, "replace 0", Two::Replace(Answer::Silent))?;
-    print_two(&rt, "replace 1", Two::Replace(Answer::Bury))?;
-    print_two(&rt, "replace 2", Two::Replace(Answer::Keep))?;
-    print_two(&rt, "replace 3", Two::Replace(Answer::Clash))
+    print_one(&rt, "negate", operators::negate)?;
+    print_one(&rt, "turn", operators::turn)?;
+    print_one(&rt, "floor", operators::floor)?;
+    print_one(&rt, "ceiling", operators::ceiling)?;
+    print_two(&rt, "meet", operators::meet)?;
+    print_two(&rt, "join", operators::join)?;
+    print_two(&rt, "truth meet", operators::truth_meet)?;
+    print_two(&rt, "truth join", operators::truth_join)?;
+    print_two(&rt, "implication", operators::implication)?;
+    print_two(&rt, "guard", operators::guard)?;
+    print_two(&rt, "priority", operators::priority)?;
+    for x in ANSWERS {
+        let number = u8::from(x);
+        print_two(
+            &rt,
+            format_args!("replace {number}"),
+            |p, q| operators::replace(x, p, q),
+        )?;
+    }
+    Ok(())
 }

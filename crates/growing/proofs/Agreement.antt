@@ -6,7 +6,7 @@ use lib.ListN.{length, set, length-set}
 use Rattle.answers.specs.declared.Answer.{Answer}
 use Rattle.situations.specs.Meaning.{merge}
 use Rattle.situations.proofs.Merging.{merge-length}
-use Rattle.growth.specs.declared.Growth.{Growth}
+use Rattle.growth.specs.Meaning.{Growth}
 use Rattle.growing.specs.Meaning.{Grows, FirstFailing, Shows}
 
 pub grows_same : (f g : List Answer → Answer) (n : ℕ) → ((s : List Answer) → length s ≡ n → f s ≡ g s) → Grows f n → Grows g n

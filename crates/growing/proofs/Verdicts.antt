@@ -9,9 +9,8 @@ use lib.ListN.{length, replicate, length-replicate}
 use borrow.Author.Tests.{ltb-true, ltb-false, eqb-true, eq-eqb}
 use native.Mathlib.Omega.{arith}
 use Rattle.refusals.specs.Meaning.{none}
-use Rattle.answers.specs.Meaning.{from_number}
+use Rattle.answers.specs.Meaning.{Reply, from_number}
 use Rattle.answers.specs.declared.Answer.{Answer}
-use Rattle.answers.specs.declared.Reply.{Reply}
 use Rattle.answers.proofs.Claims.{from_number_lem}
 use Rattle.situations.specs.Meaning.{fault, situation_at}
 use Rattle.situations.proofs.Numbers.{situation_at-length}
@@ -21,8 +20,7 @@ use Rattle.nodes.specs.Meaning.{evaluate_of}
 use Rattle.running.proofs.Heights.{evaluate-alike}
 use Rattle.running.proofs.Success.{evaluate-fine}
 use Rattle.steps.specs.Meaning.{first_column, first_answer, first_situation}
-use Rattle.growth.specs.declared.Growth.{Growth}
-use Rattle.growth.specs.Meaning.{answer_at, without, shown, growth_of}
+use Rattle.growth.specs.Meaning.{Growth, answer_at, without, shown, growth_of}
 use Rattle.growing.specs.Meaning.{Grows, FailingStep, Shows}
 use Rattle.growing.proofs.Mergers.{steps_grow, grow_steps}
 use Rattle.growing.proofs.Searches.{none-grows, found-fails, found_first, answer-below}

@@ -3,7 +3,7 @@ use Rattle.std.specs.Prelude.{ℕ, ◌<◌, ◌≡◌, List, [], ◌∷◌, T, e
 use Rattle.answers.specs.Meaning.{number, contained}
 use Rattle.answers.specs.declared.Answer.{Answer}
 use Rattle.situations.specs.Meaning.{merge, index, by_value, Step}
-use Rattle.growth.specs.declared.Growth.{Growth}
+use Rattle.growth.specs.Meaning.{Growth}
 use Rattle.answers.specs.declared.Answer.TheVariants.{Silent, Bury, Keep, Clash}
 
 -- The law: what is said of two situations of n columns is contained in what is said of their merger.

@@ -1,14 +1,16 @@
--- The ways out of the check, and what a no shows.
-use Prim.Native.Nat.{ℕ, ◌^◌, ◌≤◌, ◌<◌}
+-- What the first failing step makes of the check, and the ways out of it.
+use Prim.Native.Nat.{ℕ, ◌^◌, ◌<◌}
 use mathlib.Core.Path.{◌≡◌, refl, ap, sym, ◌∙◌}
 use mathlib.Core.Bool.{Bool, true, false, cond}
 use mathlib.Core.List.{List}
 use lib.Dec.{ltb}
 use lib.ListN.{length, replicate}
-use borrow.Author.Tests.{lt-ltb, le-ltb, eq-eqb, ne_eqb}
+use borrow.Author.Tests.{lt-ltb, le-ltb, eq-eqb}
 use native.Mathlib.Omega.{arith}
-use Rattle.refusals.specs.Meaning.{none}
+use Rattle.std.specs.Prelude.{Result, Ok, Err, Some, None}
+use Rattle.refusals.specs.Meaning.{none, numbers}
 use Rattle.refusals.specs.declared.Refusal.{Refusal}
+use Rattle.refusals.proofs.Checks.{refusal_counts, kind_refuses}
 use Rattle.answers.specs.declared.Answer.{Answer}
 use Rattle.situations.specs.declared.Situation.{Situation}
 use Rattle.situations.specs.Meaning.{weight, index, situation_at, by_value}
@@ -17,31 +19,15 @@ use Rattle.situations.proofs.Weights.{weight_power}
 use Rattle.nodes.specs.Meaning.{evaluate_of}
 use Rattle.running.proofs.Heights.{evaluate-columns}
 use Rattle.planes.specs.declared.Planes.{Planes}
-use Rattle.planes.specs.Meaning.{planes_of}
+use Rattle.planes.specs.Meaning.{Filled, refuse_filled, filled, planes_of}
 use Rattle.planes.proofs.Lanes.{planes_refused, planes_fine, planes_lane}
-use Rattle.steps.specs.declared.Step.{Step}
-use Rattle.steps.specs.Meaning.{in_words, first_situation, step_at, first_step}
-use Rattle.growth.specs.declared.Growth.{Growth}
-use Rattle.growth.specs.Meaning.{answer_at, without, shown, growth_of}
+use Rattle.steps.specs.declared.Raise.{Raise}
+use Rattle.steps.specs.Meaning.{Step, in_words, first_situation, step_at, first_step, step_told}
+use Rattle.growth.specs.declared.Verdict.{Verdict}
+use Rattle.growth.specs.declared.Verdict.TheVariants.{Yes, No}
+use Rattle.growth.specs.Meaning.{answer_at, without, shown, verdict_told, growth_told, growth_of}
 use Rattle.growth.specs.Inside.{shown_of, reply_of}
 use Rattle.growth.proofs.SameAnswers.{first_step-same}
-
--- a step shown, or none
-pub shown-made :
-    (n : ℕ) (step : Step) {s : Situation} {r : Refusal} →
-    r ≡ none →
-    s ≡ by_value (situation_at n step.number) →
-    record { refusal = r; verdict = 2; situation = s; column = step.column; answer = step.answer } ≡ shown_of n step
-shown-made n step e s = rw (e, s)
-
-module _ (n : ℕ) (step : Step) {v : ℕ} (e : v ≡ weight n) where
-  pub reply_no : {r : Growth} → step.number < v → r ≡ shown_of n step → r ≡ reply_of n step
-  unfolding reply_of
-  reply_no l q = q ∙ (rw (← e, lt-ltb step.number v l))
-
-  pub reply_yes : {r : Growth} {x : Refusal} → v ≤ step.number → x ≡ none → r ≡ without x 1 → r ≡ reply_of n step
-  unfolding reply_of
-  reply_yes l x q = q ∙ (rw (x, ← e, le-ltb step.number v l))
 
 module _ (f : List Answer → Answer) (n : ℕ) where
   replied :
@@ -73,7 +59,7 @@ growth-steps nodes n fine =
     (sym (replied (answer_at nodes) n (4 ^ n) (sym (weight_power n (evaluate-columns nodes n fine).1))))
 
 -- the words' answers are the array's
-module _ (nodes : List ℕ) (n : ℕ) {p : Planes} (e : p ≡ planes_of nodes n) (h : p.refusal.number ≡ 0) where
+module _ (nodes : List ℕ) (n : ℕ) {p : Filled} (e : p ≡ planes_of nodes n) (h : p.refusal.number ≡ 0) where
   fine : (evaluate_of nodes (replicate n 0)).refusal.number ≡ 0
   fine = planes_fine nodes n e h
 
@@ -84,20 +70,34 @@ module _ (nodes : List ℕ) (n : ℕ) {p : Planes} (e : p ≡ planes_of nodes n)
       let z : situation_at n (index s) ≡ s = rw l at (situation_at-index s) in
       planes_lane nodes n e fine (index s) i ∙ ap (λ t. answer_at nodes t) z
 
-  pub check_reply :
-      {s : Step} {r : Growth} → s ≡ first_step (in_words p.bury p.keep) n → r ≡ reply_of n s → r ≡ growth_of nodes n
-  check_reply g q =
-      q
-      ∙ ap (reply_of n) (g ∙ first_step-same (in_words p.bury p.keep) (answer_at nodes) n words_answer)
+  check_reply : {s : Step} → s ≡ first_step (in_words p.bury p.keep) n → reply_of n s ≡ growth_of nodes n
+  check_reply g =
+      ap (reply_of n) (g ∙ first_step-same (in_words p.bury p.keep) (answer_at nodes) n words_answer)
       ∙ sym (growth-steps nodes n fine)
 
+-- the ways out of the check
 pub check_refused :
-    (nodes : List ℕ) (n : ℕ) {p : Planes} {r : Growth} →
-    p ≡ planes_of nodes n →
-    (p.refusal.number ≡ 0 → ⊥) →
-    r ≡ without p.refusal 0 →
-    r ≡ growth_of nodes n
+    (nodes : List ℕ) (n : ℕ) (r : Result Verdict Refusal) (x : Refusal) →
+    refuse_filled (numbers x) ≡ planes_of nodes n →
+    r ≡ Err x →
+    growth_told r ≡ growth_of nodes n
 unfolding growth_of
-check_refused nodes n {p} e h q =
-    let z : p.refusal ≡ (evaluate_of nodes (replicate n 0)).refusal = planes_refused nodes n e h in
-    q ∙ (rw (← z, ne_eqb p.refusal.number 0 h))
+check_refused nodes n r x e j =
+    let z : numbers x ≡ (evaluate_of nodes (replicate n 0)).refusal = planes_refused nodes n e (refusal_counts x) in
+    rw (j, ← z, kind_refuses x.kind)
+
+module _ (nodes : List ℕ) (n : ℕ) {p : Planes} (e : filled (Ok p) ≡ planes_of nodes n) where
+  pub check_no :
+      (x : Raise) {s : Situation} →
+      s ≡ by_value (situation_at n x.number) →
+      x.number < weight n →
+      step_told n (weight n) (Some x) ≡ first_step (in_words p.bury p.keep) n →
+      verdict_told (No (record { situation = s; column = x.column; answer = x.answer })) ≡ growth_of nodes n
+  unfolding reply_of
+  check_no x s l g = rw s (rw (lt-ltb x.number (weight n) l) at (check_reply nodes n e refl g))
+
+  pub check_yes : step_told n (weight n) None ≡ first_step (in_words p.bury p.keep) n → verdict_told Yes ≡ growth_of nodes n
+  unfolding reply_of
+  check_yes g =
+      let q : ltb (weight n) (weight n) ≡ false = le-ltb (weight n) (weight n) (omega arith) in
+      rw q at (check_reply nodes n e refl (rw q at g))

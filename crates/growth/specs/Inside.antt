@@ -1,10 +1,9 @@
--- What the private functions say among themselves. Nothing here has to be believed: the laws tie it to the meaning.
+-- What the laws of the check say among themselves. Nothing here has to be believed: they tie it to the meaning.
 use Rattle.std.specs.Prelude.{ℕ, cond, ltb}
 use Rattle.refusals.specs.Meaning.{none}
 use Rattle.situations.specs.Meaning.{weight, situation_at, by_value}
-use Rattle.steps.specs.declared.Step.{Step}
-use Rattle.growth.specs.declared.Growth.{Growth}
-use Rattle.growth.specs.Meaning.{without}
+use Rattle.steps.specs.Meaning.{Step}
+use Rattle.growth.specs.Meaning.{Growth, without}
 
 -- a no shows a step
 abbrev pub shown_of : ℕ → Step → Growth

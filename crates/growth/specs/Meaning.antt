@@ -1,19 +1,30 @@
 -- The growth check: what it replies. What a failing step is, and which is the first, is said in steps.
-use Rattle.std.specs.Prelude.{ℕ, ◌^◌, cond, List, [], ltb, replicate}
-use Rattle.refusals.specs.Meaning.{none, after}
+use Rattle.std.specs.Prelude.{ℕ, ◌^◌, cond, List, [], ltb, replicate, Result}
+use Rattle.refusals.specs.Meaning.{Numbers, none, after, replied}
 use Rattle.refusals.specs.declared.Refusal.{Refusal}
+use Rattle.answers.specs.Meaning.{number}
 use Rattle.answers.specs.declared.Answer.{Answer}
+use Rattle.situations.specs.declared.Situation.{Situation}
 use Rattle.situations.specs.Meaning.{situation_at, by_value}
 use Rattle.nodes.specs.Meaning.{full, run, evaluate_of}
 use Rattle.steps.specs.Meaning.{first_answer, first_column, first_situation}
-use Rattle.growth.specs.declared.Growth.{Growth}
+use Rattle.growth.specs.declared.Verdict.{Verdict}
+use Rattle.growth.specs.declared.Verdict.TheVariants.{Yes, No}
 
 -- What an array answers at a situation of 1 to 6 columns.
 abbrev pub answer_at : List ℕ → List Answer → Answer
 answer_at nodes s = (run full s 0 [] nodes).answer
 
+-- What the check replies: a verdict, 1 for yes and 2 for no, and the step that a no shows.
+pub record Growth : Type 0 where
+  pub refusal : Numbers
+  pub verdict : ℕ
+  pub situation : Situation
+  pub column : ℕ
+  pub answer : ℕ
+
 -- "Any other result number 0, neither yes nor no from the growth check."
-abbrev pub without : Refusal → ℕ → Growth
+abbrev pub without : Numbers → ℕ → Growth
 without refusal verdict =
     record { refusal = refusal; verdict = verdict; situation = by_value []; column = 0; answer = 0 }
 
@@ -27,6 +38,21 @@ shown f s =
       column = first_column f s;
       answer = first_answer f s (first_column f s);
     }
+
+-- The same of a result.
+abbrev pub verdict_told : Verdict → Growth
+verdict_told Yes = without none 1
+verdict_told (No fall) =
+    record {
+      refusal = none;
+      verdict = 2;
+      situation = fall.situation;
+      column = fall.column;
+      answer = number fall.answer;
+    }
+
+abbrev pub growth_told : Result Verdict Refusal → Growth
+growth_told = replied verdict_told (λ r. without r 0)
 
 -- "Takes nodes and n. n outside 1 to 6 is SITUATION, place n; then the evaluator's refusals." They are those at the
 -- situation of n columns that is silent everywhere.

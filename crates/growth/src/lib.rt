@@ -9,77 +9,42 @@
 #![tactic(auto)]
 
 ghost use Rattle.std.specs.Prelude.{◌≡◌};
-ghost use Rattle.growth.specs.Meaning.{without, growth_of};
-ghost use Rattle.growth.specs.Inside.{shown_of, reply_of};
+ghost use Rattle.growth.specs.Meaning.{growth_of, growth_told};
 
+use answers::Answer;
 use refusals::Refusal;
 use situations::Situation;
-use steps::Step;
 
-// Neither yes nor no is 0, for a refusal.
-pub const YES: u8 = 1;
-
-pub const NO: u8 = 2;
-
-// The situation has 0 from its length on. It is all 0, and so are column and answer, but for a no.
+// Is nothing that the array has said lost in a merger? A no shows the first failing step.
 #[derive(Clone, Copy)]
-pub struct Growth {
-    pub refusal: Refusal,
-    pub verdict: u8,
+pub enum Verdict {
+    Yes,
+    No(Fall),
+}
+
+// A step after which the answer no longer contains the answer before: its situation, the column that it raises, and the
+// column's new answer.
+#[derive(Clone, Copy)]
+pub struct Fall {
     pub situation: Situation,
     pub column: usize,
-    pub answer: u8,
-}
-
-// A reply without a step.
-fn without(refusal: Refusal, verdict: u8) -> Growth
-    ensures { result ≡ without refusal verdict }
-{
-    Growth {
-        refusal,
-        verdict,
-        situation: Situation {
-            length: 0,
-            answers: [0; 6],
-        },
-        column: 0,
-        answer: 0,
-    }
-}
-
-// A no shows the first failing step.
-fn shown(step: Step, n: usize) -> Growth
-    ensures { result ≡ shown_of n step }
-{
-    Growth {
-        refusal: refusals::none(),
-        verdict: NO,
-        situation: base4::situation_at(n, step.number),
-        column: step.column,
-        answer: step.answer,
-    }
-}
-
-// What the first failing step of an array that evaluates makes of the check.
-fn reply(step: Step, n: usize) -> Growth
-    ensures { result ≡ reply_of n step }
-{
-    if step.number < base4::weight(n) {
-        return shown(step, n);
-    }
-    without(refusals::none(), YES)
+    pub answer: Answer,
 }
 
 // Does the array keep the law that nothing it has said is lost in a merger?
-pub fn check_growth(nodes: &[u8], columns: usize) -> Growth
-    ensures { result ≡ growth_of nodes.now columns }
+pub fn check_growth(nodes: &[u8], columns: usize) -> Result<Verdict, Refusal>
+    ensures { growth_told result ≡ growth_of nodes.now columns }
 {
-    let planes = planes::fill(nodes, columns);
-    let refusal = planes.refusal;
-    if refusal.number != 0 {
-        return without(refusal, 0);
+    let planes = planes::fill(nodes, columns)?;
+    match seeking::first_step(&planes, columns) {
+        Some(raise) => {
+            let fall = Fall {
+                situation: base4::situation_at(columns, raise.number),
+                column: raise.column,
+                answer: raise.answer,
+            };
+            Ok(Verdict::No(fall))
+        }
+        None => Ok(Verdict::Yes),
     }
-    let bury = planes.bury;
-    let keep = planes.keep;
-    reply(seeking::first_step(&bury, &keep, columns), columns)
 }

@@ -1,3 +1,2 @@
 pub mod Meaning
 pub mod Counts
-pub mod Inside

@@ -7,31 +7,27 @@ use lib.Dec.{ltb, eqb}
 use lib.ListN.{length, take, replicate, length-append}
 use borrow.Author.Tests.{eqb-true}
 use native.Mathlib.Omega.{arith}
-use Rattle.refusals.specs.Meaning.{none}
-use Rattle.refusals.specs.declared.Refusal.{Refusal}
+use Rattle.refusals.specs.Meaning.{Numbers, none}
 use Rattle.answers.specs.Meaning.{number}
 use Rattle.answers.specs.declared.Answer.{Answer}
 use Rattle.answers.proofs.Every.{each}
 use Rattle.situations.specs.Meaning.{situation_at}
 use Rattle.situations.proofs.Numbers.{situation_at-length}
 use Rattle.nodes.specs.Meaning.{evaluate_of}
-use Rattle.tables.specs.declared.TableRead.{TableRead}
 use Rattle.faults.specs.Meaning.{columns_of}
-use Rattle.tables.specs.Meaning.{table_of}
+use Rattle.tables.specs.Meaning.{TableRead, table_of}
 use Rattle.tables.proofs.Accepted.{read_accepted}
-use Rattle.compiler.specs.declared.Compiled.{Compiled}
 use Rattle.formula.specs.Meaning.{table_nodes}
-use Rattle.compiler.specs.Meaning.{compile_of}
+use Rattle.compiler.specs.Meaning.{Compiled, compile_of}
 use Rattle.selection.proofs.Replies.{accepted_read, accepted_reply_lem}
 use Rattle.steps.specs.Meaning.{first_situation}
-use Rattle.growth.specs.declared.Growth.{Growth}
-use Rattle.growth.specs.Meaning.{answer_at, without, shown, growth_of}
+use Rattle.growth.specs.Meaning.{Growth, answer_at, without, shown, growth_of}
 use Rattle.text.specs.Meaning.{refusal_line}
 use Rattle.text.proofs.Decimals.{number_text-below, number_text-length}
 use Rattle.lines.specs.Meaning.{growth_yes, growth_no, count_lines, answers_text, raised_text, growth_line}
 use Rattle.judging.specs.Meaning.{text_of}
 
-refusal_line-length : (r : Refusal) → length (refusal_line r) ≤ 71
+refusal_line-length : (r : Numbers) → length (refusal_line r) ≤ 71
 unfolding refusal_line
 refusal_line-length r =
     simp length-append

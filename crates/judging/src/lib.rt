@@ -6,9 +6,19 @@
 
 #![tactic(auto)]
 
-ghost use Rattle.std.specs.Prelude.{◌≡◌, cond, ◌++◌, ltb, length, take, drop};
-ghost use Rattle.text.specs.Meaning.{Printed};
+ghost use Rattle.std.specs.Prelude.{◌≡◌, cond, ◌++◌, ltb, length, take, drop, MatchResult};
+ghost use Rattle.refusals.specs.Meaning.{numbers};
+ghost use Rattle.text.specs.Meaning.{Printed, Wrote};
+ghost use Rattle.tables.specs.Meaning.{table_of};
+ghost use Rattle.formula.specs.Meaning.{table_nodes};
+ghost use Rattle.compiler.specs.Meaning.{accept_compiled, compile_of};
+ghost use Rattle.growth.specs.Meaning.{verdict_told, growth_of};
 ghost use Rattle.judging.specs.Meaning.{text_of};
+
+use compiler::Sizes;
+use growth::Verdict;
+use refusals::Refusal;
+use text::Page;
 
 // The least length of a lent buffer that gets a text. Every text is shorter: a number has at most 20 digits.
 pub const TEXT_ROOM: usize = 256;
@@ -16,20 +26,39 @@ pub const TEXT_ROOM: usize = 256;
 // How many bytes of the input are judged.
 pub const JUDGED: usize = 1024;
 
-// The text of a table. Without a default other than silent no table needs more than 4,223 nodes; one that does is refused by ROOM.
-fn judge_table(table: &[u8], text: &mut [u8]) -> usize
-    ensures { Printed text.old 0 (text_of table.now) text.new result }
+// The sizes of a table and the verdict on it. Without a default other than silent no table needs more than 4,223 nodes; one that does
+// is refused by ROOM. The check refuses no table that compiles.
+fn judged(table: &[u8]) -> Result<(Sizes, Verdict), Refusal>
+    ensures { MatchResult result
+        (λ p. (accept_compiled p.0 ≡ compile_of table.now 4223) × (verdict_told p.1 ≡ growth_of (table_nodes (table_of table.now)) p.0.columns))
+        (λ r. numbers r ≡ (compile_of table.now 4223).refusal) }
 {
     let mut nodes = [0u8; 4223];
-    let compiled = compiler::compile(table, &mut nodes);
-    let refusal = compiled.refusal;
-    if refusal.number != 0 {
-        return text::put_refusal(text, 0, refusal);
+    let sizes = compiler::compile(table, &mut nodes)?;
+    let verdict = growth::check_growth(&nodes[..sizes.nodes], sizes.columns)?;
+    Ok((sizes, verdict))
+}
+
+// The text of a table.
+fn put_table(page: &mut Page<'_>, table: &[u8])
+    ensures { Wrote page.old (text_of table.now) page.new }
+{
+    match judged(table) {
+        Ok((sizes, verdict)) => {
+            lines::put_counts(page, sizes);
+            lines::put_growth(page, verdict);
+        }
+        Err(refusal) => page.refusal(refusal),
     }
-    let count = compiled.nodes;
-    let growth = growth::check_growth(&nodes[..count], compiled.columns);
-    let next = lines::put_counts(text, 0, compiled);
-    lines::put_growth(text, next, growth)
+}
+
+// The same at the front of a buffer. Returns how many bytes that is.
+fn put_text(text: &mut [u8], table: &[u8]) -> usize
+    ensures { Printed text.old 0 (text_of table.now) text.new result }
+{
+    let mut page = Page::new(text);
+    put_table(&mut page, table);
+    page.written().len()
 }
 
 // Judges a table and writes what is to be printed. Returns how many bytes that is.
@@ -40,8 +69,5 @@ pub fn judge(input: &[u8], text: &mut [u8]) -> usize
     if text.len() < TEXT_ROOM {
         return 0;
     }
-    if input.len() < JUDGED {
-        return judge_table(input, text);
-    }
-    judge_table(&input[..JUDGED], text)
+    put_text(text, &input[..input.len().min(JUDGED)])
 }

@@ -14,6 +14,7 @@
 ghost use Rattle.std.specs.Prelude.{◌*◌};
 ghost use Rattle.answers.specs.Meaning.{negate, turn, meet, join};
 ghost use Rattle.lanes.specs.Meaning.{Placed, one, two};
+ghost use Rattle.lanes.specs.Inside.{OneBy, TwoBy};
 
 const ALL: u64 = 0xffff_ffff_ffff_ffff;
 
@@ -23,9 +24,10 @@ const WORDS: usize = 16;
 // The words of a place.
 const PLACE: usize = 32;
 
-// The bits change places.
-pub fn negate(stack: &mut [u64], height: usize)
-    ensures { Placed (one negate stack.old (height * 32)) (height * 32) 32 stack.old stack.new }
+// Both words of every lane at a place, by an operator on them.
+fn one<F: Fn(u64, u64) -> (u64, u64)>(stack: &mut [u64], height: usize, operator: F)
+    requires { F.IsAlwaysCallable operator }
+    ensures { OneBy (F.post operator) (height * 32) stack.old stack.new }
 {
     if stack.len() / PLACE <= height {
         return;
@@ -34,65 +36,55 @@ pub fn negate(stack: &mut [u64], height: usize)
     for w in 0..WORDS {
         let place = at + w;
         let above = place + WORDS;
-        let b = stack[place];
-        let k = stack[above];
-        stack[place] = k;
-        stack[above] = b;
+        let (bury, keep) = operator(stack[place], stack[above]);
+        stack[place] = bury;
+        stack[above] = keep;
     }
+}
+
+// Every word of a place, by an operator on it and on that of the place above it.
+fn two<F: Fn(u64, u64) -> u64>(stack: &mut [u64], height: usize, operator: F)
+    requires { F.IsAlwaysCallable operator }
+    ensures { TwoBy (F.post operator) (height * 32) stack.old stack.new }
+{
+    let places = stack.len() / PLACE;
+    if places < 2 {
+        return;
+    }
+    if places - 2 < height {
+        return;
+    }
+    let at = height * PLACE;
+    for w in 0..PLACE {
+        let place = at + w;
+        stack[place] = operator(stack[place], stack[place + PLACE]);
+    }
+}
+
+// The bits change places.
+pub fn negate(stack: &mut [u64], height: usize)
+    ensures { Placed (one negate stack.old (height * 32)) (height * 32) 32 stack.old stack.new }
+{
+    one(stack, height, |b, k| (k, b));
 }
 
 // One more: the lower bit changes, and the higher one where there is a carry.
 pub fn turn(stack: &mut [u64], height: usize)
     ensures { Placed (one turn stack.old (height * 32)) (height * 32) 32 stack.old stack.new }
 {
-    if stack.len() / PLACE <= height {
-        return;
-    }
-    let at = height * PLACE;
-    for w in 0..WORDS {
-        let place = at + w;
-        let above = place + WORDS;
-        let b = stack[place];
-        let k = stack[above];
-        stack[place] = b ^ ALL;
-        stack[above] = k ^ b;
-    }
+    one(stack, height, |b, k| (b ^ ALL, k ^ b));
 }
 
-// The place and the one above it, bit by bit.
+// The claims that both have.
 pub fn meet(stack: &mut [u64], height: usize)
     ensures { Placed (two meet stack.old (height * 32)) (height * 32) 64 stack.old stack.new }
 {
-    let places = stack.len() / PLACE;
-    if places < 2 {
-        return;
-    }
-    if places - 2 < height {
-        return;
-    }
-    let at = height * PLACE;
-    for w in 0..PLACE {
-        let place = at + w;
-        let other = place + PLACE;
-        stack[place] = stack[place] & stack[other];
-    }
+    two(stack, height, |p, q| p & q);
 }
 
-// The same with or.
+// The claims that either has.
 pub fn join(stack: &mut [u64], height: usize)
     ensures { Placed (two join stack.old (height * 32)) (height * 32) 64 stack.old stack.new }
 {
-    let places = stack.len() / PLACE;
-    if places < 2 {
-        return;
-    }
-    if places - 2 < height {
-        return;
-    }
-    let at = height * PLACE;
-    for w in 0..PLACE {
-        let place = at + w;
-        let other = place + PLACE;
-        stack[place] = stack[place] | stack[other];
-    }
+    two(stack, height, |p, q| p | q);
 }

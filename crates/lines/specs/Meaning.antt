@@ -1,8 +1,8 @@
 -- The lines that `tablecheck` prints for a table that compiles.
 use Rattle.std.specs.Prelude.{ℕ, cond, List, [], ◌∷◌, ◌++◌, eqb, take}
 use Rattle.text.specs.Meaning.{SPACE, LINE_FEED, number_text, line}
-use Rattle.compiler.specs.declared.Compiled.{Compiled}
-use Rattle.growth.specs.declared.Growth.{Growth}
+use Rattle.compiler.specs.Meaning.{Compiled}
+use Rattle.growth.specs.Meaning.{Growth}
 
 -- The words, each with what stands behind it.
 -- "columns "

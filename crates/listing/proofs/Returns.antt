@@ -6,27 +6,28 @@ use mathlib.Core.List.{List, [], ◌∷◌, ◌++◌}
 use lib.Dec.{ltb}
 use lib.ListN.{length, drop, length-append}
 use lib.Seq.{sets-eq}
-use borrow.Author.Tests.{lt-ltb, le-ltb, eq-eqb, ne_eqb, ltb-false}
+use borrow.Author.Tests.{lt-ltb, le-ltb, ne_eqb, ltb-false}
 use native.Mathlib.Nat.{zero-add, div-eq_of_eq-mul_left}
 use native.Mathlib.Omega.{arith}
 use Rattle.lent.specs.Inside.{Wrote}
 use Rattle.lent.proofs.Laws.{wrote_then}
-use Rattle.refusals.specs.Meaning.{none, refused, SITUATION, ROWS, ROOM}
+use Rattle.std.specs.Prelude.{Result, Err}
+use Rattle.refusals.specs.Meaning.{Numbers, none, refused, numbers, kind_number, SITUATION, ROWS, ROOM}
 use Rattle.refusals.specs.declared.Refusal.{Refusal}
+use Rattle.refusals.proofs.Checks.{refusal_counts}
 use Rattle.answers.specs.declared.Answer.{Answer}
 use Rattle.situations.specs.Meaning.{weight}
 use Rattle.base4.specs.Meaning.{situations_of}
 use Rattle.base4.proofs.Shifts.{weight-small}
 use Rattle.tables.specs.Meaning.{table_bytes}
 use Rattle.text.specs.Meaning.{Printed}
-use Rattle.listing.specs.declared.Written.{Written}
-use Rattle.listing.specs.Meaning.{listed_rows, listed, refuse_written, reply_of, list_of, written_of}
+use Rattle.listing.specs.Meaning.{Written, listed_rows, listed, wrote, give_written, refuse_written, reply_of, list_of, written_of}
 use Rattle.listing.specs.Inside.{limit, listed_from, placed}
 use Rattle.listing.proofs.Rows.{from_length, rows_short}
 use Rattle.listing.proofs.Walk.{printed_wrote}
 
 -- the reply to a table of so many rows and bytes
-module _ (rows needed room : ℕ) {x : Refusal} where
+module _ (rows needed room : ℕ) {x : Numbers} where
   pub reply-rows : {q : Written} → 64 < rows → x ≡ refused ROWS rows → q ≡ refuse_written x → q ≡ reply_of rows needed room
   unfolding reply_of
   reply-rows l i j = rw (lt-ltb 64 rows l, ← i) j
@@ -72,7 +73,7 @@ module _ (f : List Answer → Answer) (n : ℕ) where
   bytes-long = ap length bytes_are ∙ (simp length-append (let rows = from_length f n 0 (weight n) in omega arith))
 
   -- a call with no such columns
-  module _ (room : ℕ) {x : Refusal} {q : Written} (i : x ≡ refused SITUATION n) (j : q ≡ refuse_written x) where
+  module _ (room : ℕ) {x : Numbers} {q : Written} (i : x ≡ refused SITUATION n) (j : q ≡ refuse_written x) where
     pub list-under : n < 1 → q ≡ list_of f n room
     unfolding list_of
     list-under l = rw (lt-ltb n 1 l, ← i) j
@@ -124,19 +125,31 @@ module _ (f : List Answer → Answer) (n : ℕ) where
       needed_is : 4 + rows * (n + 4) ≡ length bytes
       needed_is = rw counted (sym bytes-long)
 
-      pub list-replies : q ≡ list_of f n room
+      replies : q ≡ list_of f n room
       unfolding list_of
-      list-replies =
+      replies =
           e ∙ ap₂ (λ r needed. reply_of r needed room) counted needed_is ∙ (rw (le-ltb n 1 some, le-ltb 6 n few))
 
-      pub list-fits : q.refusal.number ≡ 0 → length bytes ≤ room
-      list-fits z = rw (← needed_is) (reply-fits rows (4 + rows * (n + 4)) room (rw e at z))
+      fits : q.refusal.number ≡ 0 → length bytes ≤ room
+      fits z = rw (← needed_is) (reply-fits rows (4 + rows * (n + 4)) room (rw e at z))
 
-      module _ (lent : List ℕ) where
-        pub list-refused : (q.refusal.number ≡ 0 → ⊥) → lent ≡ written_of (listed f n) q lent
-        unfolding written_of
-        list-refused h = rw (ne_eqb q.refusal.number 0 h)
+  -- the same of results, refused and given
+  module _ (some : 1 ≤ n) (few : n ≤ 6) {rows : ℕ} (room : ℕ) (counted : rows ≡ count) where
+    module _ (r : Result ℕ Refusal) (x : Refusal) (e : refuse_written (numbers x) ≡ reply_of rows (4 + rows * (n + 4)) room) (i : r ≡ Err x) where
+      pub list_refused-replies : wrote r ≡ list_of f n room
+      list_refused-replies = ap wrote i ∙ replies some few room counted e
 
-        pub list_written : {new : List ℕ} → q.refusal.number ≡ 0 → new ≡ placed bytes lent → new ≡ written_of (listed f n) q lent
-        unfolding written_of
-        list_written z w = w ∙ (rw (eq-eqb q.refusal.number 0 z))
+      pub list-refused : (lent : List ℕ) → lent ≡ written_of (listed f n) (wrote r) lent
+      unfolding written_of
+      list-refused lent = rw (i, ne_eqb (kind_number x.kind) 0 (refusal_counts x))
+
+    module _ {m : ℕ} (e : give_written m ≡ reply_of rows (4 + rows * (n + 4)) room) where
+      pub list_given : give_written m ≡ list_of f n room
+      list_given = replies some few room counted e
+
+      pub list-fits : length bytes ≤ room
+      list-fits = fits some few room counted e refl
+
+      pub list_written : (lent : List ℕ) {new : List ℕ} → new ≡ placed bytes lent → new ≡ written_of (listed f n) (give_written m) lent
+      unfolding written_of
+      list_written lent w = w

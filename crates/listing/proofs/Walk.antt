@@ -2,17 +2,21 @@
 use Prim.Native.Nat.{ℕ, suc, ◌+◌, ◌-◌, ◌*◌, ◌%◌, ◌≤◌, ◌<◌}
 use mathlib.Core.Path.{◌≡◌, refl, ap, ap₂, sym, ◌∙◌}
 use mathlib.Core.List.{List, [], ◌∷◌, ◌++◌, map}
+use mathlib.Core.Bool.{Bool, true, false}
+use lib.Dec.{eqb}
 use lib.ListN.{length, take, length-append, length-map}
 use lib.Seq.{length-sets}
-use borrow.Author.Tests.{ne_eqb}
+use borrow.Author.Tests.{ne_eqb, eqb-true, eqb-false}
 use native.Mathlib.Nat.{sub-zero}
 use native.Mathlib.Omega.{arith}
+use denote.Enum.Bare.{sameb}
+use Rattle.answers.specs.contracts.Answer.{the_type}
 use Rattle.lent.specs.Inside.{Wrote}
 use Rattle.lent.proofs.Laws.{wrote_none, wrote_counted, writing_start, writing_more, writing_done}
 use Rattle.answers.specs.Meaning.{number, from_number}
 use Rattle.answers.proofs.Claims.{from_number_lem}
 use Rattle.answers.specs.declared.Answer.{Answer}
-use Rattle.answers.specs.declared.Answer.TheVariants.{Silent}
+use Rattle.answers.specs.declared.Answer.TheVariants.{Silent, Bury, Keep, Clash}
 use Rattle.situations.specs.declared.Situation.{Situation}
 use Rattle.situations.specs.Meaning.{weight, situation_at, by_value}
 use Rattle.situations.proofs.Numbers.{situation_at-length, index-situation_at}
@@ -77,7 +81,7 @@ module _ (n w low high at : ℕ) (b : List ℕ) (inside : w < weight n) where
   field-long = ap length field_is ∙ (simp (length-append, length-map) (rw long (omega arith)))
 
   -- nothing for silent
-  pub answer_silent : bits ≡ 0 → Wrote b at (answer_bytes answer here) b at
+  answer_silent : bits ≡ 0 → Wrote b at (answer_bytes answer here) b at
   answer_silent z = rw z (wrote_none b at)
 
   -- else the row: one that does not fit is counted, and one that fits is written
@@ -85,10 +89,10 @@ module _ (n w low high at : ℕ) (b : List ℕ) (inside : w < weight n) where
     loud : answer_bytes answer here ≡ row_field (own_row answer here)
     loud = rw (ne_eqb (number answer) 0 (λ z. some (sym numbered ∙ z)))
 
-    pub answer-counted : length b < at + n + 4 → Wrote b at (answer_bytes answer here) b (at + n + 4)
+    answer-counted : length b < at + n + 4 → Wrote b at (answer_bytes answer here) b (at + n + 4)
     answer-counted l = rw loud (wrote_counted b at (row_field (own_row answer here)) (rw field-long (omega arith)) l)
 
-    pub answer-written :
+    answer-written :
         {c d e : List ℕ} {first last r : ℕ} →
         Printed d last (bits ∷ []) e r →
         {situation : Situation} →
@@ -104,6 +108,46 @@ module _ (n w low high at : ℕ) (b : List ℕ) (inside : w < weight n) where
         rw field_is (printed_then (printed_then one (rw (made, cells) at two)) three) in
         let wrote = printed_wrote all (rw field-long (omega arith)) in
         rw loud (record { ends = rw field-long (omega arith); holds = λ h. all.holds; long = wrote.long })
+
+-- the same where the code has the answer, and a test for silent
+same_number : (a : Answer) → sameb the_type a Silent ≡ eqb (number a) 0
+same_number Silent = refl
+same_number Bury = refl
+same_number Keep = refl
+same_number Clash = refl
+
+module _
+    (n w low high at : ℕ) (b : List ℕ) (inside : w < weight n) {a : Answer} (is : a ≡ lowest low high)
+    {t : Bool} (e : t ≡ sameb the_type a Silent)
+  where
+    number_is : number a ≡ low % 2 + 2 * (high % 2)
+    number_is = ap number is ∙ from_number_lem (low % 2 + 2 * (high % 2)) (omega arith)
+
+    test_is : t ≡ eqb (low % 2 + 2 * (high % 2)) 0
+    test_is = e ∙ same_number a ∙ ap (λ k. eqb k 0) number_is
+
+    pub told_silent : t ≡ true → Wrote b at (answer_bytes (lowest low high) (situation_at n w)) b at
+    told_silent y = answer_silent n w low high at b inside (eqb-true (low % 2 + 2 * (high % 2)) 0 (sym test_is ∙ y))
+
+    module _ (z : t ≡ false) where
+      some : low % 2 + 2 * (high % 2) ≡ 0 → ⊥
+      some = eqb-false (low % 2 + 2 * (high % 2)) 0 (sym test_is ∙ z)
+
+      pub told-counted : length b < at + n + 4 → Wrote b at (answer_bytes (lowest low high) (situation_at n w)) b (at + n + 4)
+      told-counted = answer-counted n w low high at b inside some
+
+      pub told-written :
+          {o : ℕ} {c d e : List ℕ} {first last r : ℕ} →
+          Printed d last (o ∷ []) e r →
+          o ≡ number a →
+          {situation : Situation} →
+          Printed c first (take n situation.answers) d last →
+          situation ≡ by_value (situation_at n w) →
+          Printed b at (2 ∷ 0 ∷ (n + 1) ∷ []) c first →
+          at + n + 4 ≤ length b →
+          Wrote b at (answer_bytes (lowest low high) (situation_at n w)) e (at + n + 4)
+      told-written three number two made one room =
+          answer-written n w low high at b inside some (rw (number ∙ number_is) at three) two made one room
 
 -- the walk
 pub walk-small : (n w : ℕ) {total : ℕ} → total ≡ weight n → w < total → w < 4096

@@ -1,6 +1,6 @@
 -- The table that lists answers: which rows it has, and what writing its bytes replies and writes.
-use Rattle.std.specs.Prelude.{ℕ, cond, List, [], ◌∷◌, ◌++◌, ltb, eqb, length, drop}
-use Rattle.refusals.specs.Meaning.{none, refused, SITUATION, ROWS, ROOM}
+use Rattle.std.specs.Prelude.{ℕ, cond, List, [], ◌∷◌, ◌++◌, ltb, eqb, length, drop, Result}
+use Rattle.refusals.specs.Meaning.{Numbers, none, refused, replied, SITUATION, ROWS, ROOM}
 use Rattle.refusals.specs.declared.Refusal.{Refusal}
 use Rattle.answers.specs.declared.Answer.{Answer}
 use Rattle.situations.specs.Meaning.{outside}
@@ -9,7 +9,6 @@ use Rattle.rows.specs.Meaning.{Row}
 use Rattle.defaults.specs.Meaning.{unwritten}
 use Rattle.tables.specs.Meaning.{Table, table_bytes}
 use Rattle.formula.specs.Meaning.{is_silent, own_row}
-use Rattle.listing.specs.declared.Written.{Written}
 
 -- "One row for every situation with an answer other than silent, in base-4 order, no wildcards": the situation's own row.
 unfoldable pub listed_rows : (List Answer → Answer) → List (List Answer) → List Row
@@ -20,9 +19,20 @@ listed_rows f (s ∷ situations) = cond (is_silent (f s)) (listed_rows f situati
 abbrev pub listed : (List Answer → Answer) → ℕ → Table
 listed f n = record { columns = n; default = unwritten; rows = listed_rows f (situations_of n) }
 
--- "A refusal returns .. any other result number 0."
-abbrev pub refuse_written : Refusal → Written
+-- What writing a table replies: how many bytes stand at the buffer's front. "A refusal returns .. any other result number 0."
+pub record Written : Type 0 where
+  pub refusal : Numbers
+  pub length : ℕ
+
+abbrev pub give_written : ℕ → Written
+give_written n = record { refusal = none; length = n }
+
+abbrev pub refuse_written : Numbers → Written
 refuse_written r = record { refusal = r; length = 0 }
+
+-- The same of a result.
+abbrev pub wrote : Result ℕ Refusal → Written
+wrote = replied give_written refuse_written
 
 -- "ROWS (place: rows needed) exactly when more than 64 are needed, then ROOM (place: bytes needed)."
 unfoldable pub reply_of : ℕ → ℕ → ℕ → Written

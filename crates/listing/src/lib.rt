@@ -1,14 +1,15 @@
 // The table that lists answers, written into a lent buffer: one row for every situation with an answer other than silent, in base-4
 // order, each cell an answer, and no default.
 //
-// The answers at all situations of n columns come in two blocks of 64 words, as planes has them: bit w % 64 of word w / 64 is the
-// situation with number w; what stands beyond the situations does not count. It promises that the table's bytes then stand at the
+// The answers at all situations of n columns come in planes, two blocks of 64 words: bit w % 64 of word w / 64 is the situation with
+// number w; what stands beyond the situations does not count. It promises that the table's bytes then stand at the
 // buffer's front and nothing else is written, and that a refused call writes nothing.
 // It refuses a column count outside 1 to 6 (SITUATION, place: the count), then more than 64 rows (ROWS, place: rows needed), then a
 // buffer too short (ROOM, place: bytes needed).
 //
 // Each function that puts rows goes on from a place and returns the next one: a row is written where the buffer has room for it, and
-// counted in any case. So the walk over an empty buffer counts. Where nothing is left in a word, its end comes next.
+// counted in any case. So the walk over an empty buffer counts. (A page of `text` cuts off what it has no room for, and so cannot
+// count.) Where nothing is left in a word, its end comes next.
 
 #![tactic(auto)]
 
@@ -18,13 +19,13 @@ ghost use Rattle.situations.specs.Meaning.{weight, situation_at};
 ghost use Rattle.base4.specs.Meaning.{situations_of};
 ghost use Rattle.tables.specs.Meaning.{table_bytes};
 ghost use Rattle.steps.specs.Meaning.{in_words};
-ghost use Rattle.listing.specs.Meaning.{listed_rows, listed, refuse_written, reply_of, list_of, written_of};
+ghost use Rattle.listing.specs.Meaning.{listed_rows, listed, wrote, reply_of, list_of, written_of};
 ghost use Rattle.listing.specs.Inside.{limit, behind, ahead_of, lowest, answer_bytes, listed_from, placed};
 
-use refusals::{ROOM, ROWS, Refusal, SITUATION, none, refused};
+use answers::Answer;
+use planes::Planes;
+use refusals::{Kind, Refusal};
 use rows::{BESIDE_CELLS, MOST_COLUMNS};
-
-const SILENT: u8 = 0;
 
 // The tags of a table's fields.
 const COLUMNS: u8 = 1;
@@ -38,19 +39,6 @@ const MOST_ROWS: usize = 64;
 
 // The situations of a word.
 const WORD: usize = 64;
-
-// What writing a table gives: how many bytes stand at the buffer's front, 0 in a refusal.
-#[derive(Clone, Copy)]
-pub struct Written {
-    pub refusal: Refusal,
-    pub length: usize,
-}
-
-pub fn refuse(refusal: Refusal) -> Written
-    ensures { result ≡ refuse_written refusal }
-{
-    Written { refusal, length: 0 }
-}
 
 // The bits of a situation's word from its own on.
 fn rest(words: &[u64; 64], w: usize) -> u64
@@ -79,8 +67,8 @@ fn put_answer(table: &mut [u8], at: usize, n: usize, w: usize, low: u64, high: u
     requires { (w < weight n) × (n ≤ 6) × (at ≤ limit) }
     ensures { Wrote table.old at (answer_bytes (lowest low high) (situation_at n w)) table.new result }
 {
-    let answer = (low % 2 + 2 * (high % 2)) as u8;
-    if answer == SILENT {
+    let answer = Answer::from((low % 2 + 2 * (high % 2)) as u8);
+    if answer == Answer::Silent {
         return at;
     }
     let end = at + n + BESIDE_CELLS;
@@ -90,7 +78,7 @@ fn put_answer(table: &mut [u8], at: usize, n: usize, w: usize, low: u64, high: u
     let situation = base4::situation_at(n, w);
     let cells = situation.answers;
     let header = [ROW, 0, n as u8 + 1];
-    let outcome = [answer];
+    let outcome = [u8::from(answer)];
     let first = text::put_bytes(table, at, &header);
     let last = text::put_bytes(table, first, &cells[..n]);
     text::put_bytes(table, last, &outcome);
@@ -98,17 +86,18 @@ fn put_answer(table: &mut [u8], at: usize, n: usize, w: usize, low: u64, high: u
 }
 
 // The rows of all situations, in base-4 order.
-fn put_rows(table: &mut [u8], at: usize, bury: &[u64; 64], keep: &[u64; 64], n: usize) -> usize
-    requires { at + length (listed_from (in_words bury.now keep.now) n 0 (weight n)) ≤ limit }
-    ensures { Wrote table.old at (listed_from (in_words bury.now keep.now) n 0 (weight n)) table.new
+fn put_rows(table: &mut [u8], at: usize, planes: &Planes, n: usize) -> usize
+    requires { at + length (listed_from (in_words planes.now.bury planes.now.keep) n 0 (weight n)) ≤ limit }
+    ensures { Wrote table.old at (listed_from (in_words planes.now.bury planes.now.keep) n 0 (weight n)) table.new
         result }
 {
     let total = base4::weight(n);
     let mut next = at;
     let mut w = 0;
+    // The number goes past what is silent in a word, so that no range gives it.
     while w < total {
-        let low = rest(bury, w);
-        let high = rest(keep, w);
+        let low = rest(&planes.bury, w);
+        let high = rest(&planes.keep, w);
         next = put_answer(table, next, n, w, low, high);
         w += ahead(low, high, w);
     }
@@ -116,57 +105,52 @@ fn put_rows(table: &mut [u8], at: usize, bury: &[u64; 64], keep: &[u64; 64], n: 
 }
 
 // How many rows there are: the walk over no room at all.
-fn count_rows(bury: &[u64; 64], keep: &[u64; 64], n: usize) -> usize
+fn count_rows(planes: &Planes, n: usize) -> usize
     requires { n ≤ 6 }
-    ensures { result ≡ length (listed_rows (in_words bury.now keep.now) (situations_of n)) }
+    ensures { result ≡ length (listed_rows (in_words planes.now.bury planes.now.keep) (situations_of n)) }
 {
     let mut nowhere = [0u8; 0];
-    put_rows(&mut nowhere, 0, bury, keep, n) / (n + BESIDE_CELLS)
+    put_rows(&mut nowhere, 0, planes, n) / (n + BESIDE_CELLS)
 }
 
-// What is replied of a table of so many rows and bytes.
+// Is a table of so many rows and bytes given back, with so many bytes of room? Its length, if so.
 #[tactic(auto, using(crate::proofs::Returns::reply_laws))]
-fn reply(rows: usize, needed: usize, room: usize) -> Written
-    ensures { result ≡ reply_of rows needed room }
+fn reply(rows: usize, needed: usize, room: usize) -> Result<usize, Refusal>
+    ensures { wrote result ≡ reply_of rows needed room }
 {
     if MOST_ROWS < rows {
-        return refuse(refused(ROWS, rows));
+        return Err(Refusal::at(Kind::Rows, rows));
     }
     if room < needed {
-        return refuse(refused(ROOM, needed));
+        return Err(Refusal::at(Kind::Room, needed));
     }
-    Written {
-        refusal: none(),
-        length: needed,
-    }
+    Ok(needed)
 }
 
 // The table's bytes, where there is room for them: the columns field, and behind it the rows.
-fn put_table(table: &mut [u8], bury: &[u64; 64], keep: &[u64; 64], n: usize)
-    requires { (n ≤ 6) × (length (table_bytes (listed (in_words bury.now keep.now) n)) ≤ length table.old) }
-    ensures { table.new ≡ placed (table_bytes (listed (in_words bury.now keep.now) n)) table.old }
+fn put_table(table: &mut [u8], planes: &Planes, n: usize)
+    requires { (n ≤ 6) × (length (table_bytes (listed (in_words planes.now.bury planes.now.keep) n)) ≤ length table.old) }
+    ensures { table.new ≡ placed (table_bytes (listed (in_words planes.now.bury planes.now.keep) n)) table.old }
 {
     let columns = [COLUMNS, 0, 1, n as u8];
     let first = text::put_bytes(table, 0, &columns);
-    put_rows(table, first, bury, keep, n);
+    put_rows(table, first, planes, n);
 }
 
-// Writes the table that lists the answers in these words.
-pub fn list(bury: &[u64; 64], keep: &[u64; 64], columns: usize, table: &mut [u8]) -> Written
-    ensures reply { result ≡ list_of (in_words bury.now keep.now) columns (length table.old) }
-    ensures written { table.new ≡ written_of (listed (in_words bury.now keep.now) columns) result table.old }
+// Writes the table that lists the answers in these planes. Returns how many bytes stand at the buffer's front.
+pub fn list(planes: &Planes, columns: usize, table: &mut [u8]) -> Result<usize, Refusal>
+    ensures reply { wrote result ≡ list_of (in_words planes.now.bury planes.now.keep) columns (length table.old) }
+    ensures written { table.new ≡ written_of (listed (in_words planes.now.bury planes.now.keep) columns) (wrote result) table.old }
 {
     if columns < 1 {
-        return refuse(refused(SITUATION, columns));
+        return Err(Refusal::at(Kind::Situation, columns));
     }
     if MOST_COLUMNS < columns {
-        return refuse(refused(SITUATION, columns));
+        return Err(Refusal::at(Kind::Situation, columns));
     }
-    let rows = count_rows(bury, keep, columns);
+    let rows = count_rows(planes, columns);
     let needed = COLUMNS_FIELD + rows * (columns + BESIDE_CELLS);
-    let written = reply(rows, needed, table.len());
-    if written.refusal.number == 0 {
-        put_table(table, bury, keep, columns);
-    }
-    written
+    let length = reply(rows, needed, table.len())?;
+    put_table(table, planes, columns);
+    Ok(length)
 }

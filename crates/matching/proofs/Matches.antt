@@ -1,23 +1,24 @@
 -- A cell, a row and the rows of a part held to a situation: the ways out of the tests and loops.
 use Prim.Native.Nat.{ℕ, zero, suc, ◌+◌, ◌-◌, ◌*◌, ◌≤◌, ◌<◌}
-use mathlib.Core.Path.{◌≡◌, refl, sym, ◌∙◌}
-use mathlib.Core.Bool.{Bool, true, false, not, ◌&&◌, ◌||◌, and-false}
+use mathlib.Core.Path.{◌≡◌, refl, ap, sym, ◌∙◌}
+use mathlib.Core.Bool.{Bool, true, false, ◌&&◌, ◌||◌, and-false}
 use mathlib.Core.List.{List, [], ◌∷◌, map}
 use lib.Dec.{eqb}
-use lib.ListN.{length, take, drop, get_or, drop_of_length-le, length-map, length-take, length-drop}
-use lib.Seq.{drop-cons, drop-drop, take-take, take-nil, length-take-le}
-use borrow.Author.Tests.{lt-ltb, le-ltb, not-true, not-false}
+use lib.ListN.{length, take, drop, length-map, length-take, length-drop}
+use lib.Seq.{drop-drop, take-take, take-nil, length-take-le}
+use borrow.Author.Tests.{lt-ltb, le-ltb}
 use native.Mathlib.Nat.{zero-add}
 use native.Mathlib.Numerals.{add-one}
 use native.Mathlib.Omega.{arith}
+use Rattle.std.specs.List.{list_all, zip}
 use Rattle.answers.specs.Meaning.{number, from_number}
 use Rattle.answers.specs.declared.Answer.{Answer}
 use Rattle.answers.proofs.Claims.{from_number_lem}
 use Rattle.situations.specs.Meaning.{answers_of}
 use Rattle.rows.specs.Meaning.{Cell, cell_of, cell_matches, matches, row_width, row_count, row_bytes, cell_bytes, row_of, rows_of, rows_in}
-use Rattle.rows.proofs.RowBytes.{row_bytes-take, row_count-end}
+use Rattle.rows.proofs.RowBytes.{row_bytes-take, row_count-columns, row_count-end}
 use Rattle.matching.specs.Meaning.{matched}
-use Rattle.matching.specs.Inside.{MatchingCells, MatchingRows}
+use Rattle.matching.specs.Inside.{MatchingRows}
 
 -- one cell
 pub cell_any : (c b : ℕ) → 4 ≤ c → true ≡ cell_matches (cell_of c) (from_number b)
@@ -31,36 +32,18 @@ pub cell_answer :
     eqb c k ≡ cell_matches (cell_of c) (from_number b)
 cell_answer c b h e f = rw (lt-ltb c 4 h, from_number_lem c (omega arith), f, e)
 
--- the loop over cells
-pub cells-none : (cells s : List ℕ) → MatchingCells cells s 0
-cells-none cells s = record { inside = omega arith; rest = refl }
+pub ruleset cell_laws = (cell_any, cell_answer)
 
-matches-cons :
-    (cells s : List ℕ) (i : ℕ) →
-    i < length cells →
-    i < length s →
-    matches (map cell_of (drop i cells)) (answers_of (drop i s))
-    ≡ (cell_matches (cell_of (get_or cells i 0)) (from_number (get_or s i 0))
-    && matches (map cell_of (drop (suc i) cells)) (answers_of (drop (suc i) s)))
+-- a row's cells and a situation side by side
+pub list_all-matches :
+    (cells s : List ℕ) →
+    length cells ≤ length s →
+    list_all (λ x. cell_matches (cell_of x.0) (from_number x.1)) (zip cells s) ≡ matches (map cell_of cells) (answers_of s)
 unfolding matches
-matches-cons cells s i l k = rw (drop-cons cells i 0 l, drop-cons s i 0 k)
-
-module _ (cells s : List ℕ) (i : ℕ) (w : MatchingCells cells s i) where
-  pub cells-all : length cells ≤ i → true ≡ matches (map cell_of cells) (answers_of s)
-  unfolding matches
-  cells-all l = rw (drop_of_length-le cells {i = i} l) at w.rest
-
-  module _
-      (wide : length cells ≤ length s)
-      (l : i < length cells)
-      {b : Bool}
-      (e : b ≡ cell_matches (cell_of (get_or cells i 0)) (from_number (get_or s i 0))) where
-    pub cells_apart : not b ≡ true → false ≡ matches (map cell_of cells) (answers_of s)
-    cells_apart f = rw (matches-cons cells s i l (omega arith), ← e, not-true b f) at w.rest
-
-    pub cells-more : not b ≡ false → MatchingCells cells s (i + 1)
-    cells-more f =
-        record { inside = omega arith; rest = rw add-one (rw (matches-cons cells s i l (omega arith), ← e, not-false b f) at w.rest) }
+list_all-matches [] s l = refl
+list_all-matches (c ∷ cells) [] l = absurd (omega arith)
+list_all-matches (c ∷ cells) (a ∷ s) l =
+    ap (λ b. cell_matches (cell_of c) (from_number a) && b) (list_all-matches cells s (omega arith))
 
 -- the cells of a row, in the part itself
 drop-take : (k m n : ℕ) (l : List ℕ) → m ≡ k + n → drop k (take m l) ≡ take n (drop k l)
@@ -90,6 +73,9 @@ module _ (n : ℕ) (rows : List ℕ) (i : ℕ) (l : i < row_count n rows) where
 module _ (n : ℕ) (rows : List ℕ) (i k : ℕ) (e : k ≡ row_count n rows) (l : i < k) where
   inside : i < row_count n rows
   inside = rw e at l
+
+  pub cells-few : n ≤ 6
+  cells-few = row_count-columns n rows i inside
 
   pub cells-start : i * row_width n + 3 ≤ length rows
   cells-start = omega (arith, row_count-end n rows i inside)

@@ -12,19 +12,16 @@ ghost use Rattle.situations.specs.Meaning.{answers_of};
 ghost use Rattle.rows.specs.Meaning.{cell_of, cell_matches, matches, rows_in};
 ghost use Rattle.matching.specs.Meaning.{matched};
 
+use answers::Answer;
 use fields::HEADER;
-use rows::BESIDE_CELLS;
-
-const ANY: u8 = 4;
+use rows::{ANY, BESIDE_CELLS, Rows};
 
 // Does an answer match a cell?
+#[tactic(auto, using(crate::proofs::Matches::cell_laws))]
 fn cell_matches(cell: u8, answer: u8) -> bool
     ensures { result ≡ cell_matches (cell_of cell) (from_number answer) }
 {
-    if ANY <= cell {
-        return true;
-    }
-    cell == answers::number(answers::from_number(answer))
+    ANY <= cell || cell == u8::from(Answer::from(answer))
 }
 
 // Does a situation match a row's cells?
@@ -32,33 +29,28 @@ fn cells_match(cells: &[u8], situation: &[u8]) -> bool
     requires { length cells.now ≤ length situation.now }
     ensures { result ≡ matches (map cell_of cells.now) (answers_of situation.now) }
 {
-    let mut i = 0;
-    while i < cells.len() {
-        if !cell_matches(cells[i], situation[i]) {
-            return false;
-        }
-        i += 1;
-    }
-    true
+    cells
+        .iter()
+        .zip(situation)
+        .all(|(cell, answer)| cell_matches(*cell, *answer))
 }
 
 // Does one of the rows that a part holds match a situation? Their cells are taken out of the part itself, since the parts of a part
 // cost half as much again where 4,096 situations are tried.
-pub fn matched(rows: &[u8], columns: usize, situation: &[u8]) -> bool
-    ensures { result ≡ matched (rows_in columns rows.now) (answers_of situation.now) }
+pub fn matched(rows: Rows, situation: &[u8]) -> bool
+    ensures { result ≡ matched (rows_in rows.entry.columns rows.entry.bytes.now) (answers_of situation.now) }
 {
+    let columns = rows.columns;
+    let bytes = rows.bytes;
     if situation.len() < columns {
         return false;
     }
-    let count = rows::row_count(rows, columns);
-    let mut i = 0;
-    while i < count {
+    for i in 0..rows.count() {
         let start = i * (columns + BESIDE_CELLS) + HEADER;
         let end = start + columns;
-        if cells_match(&rows[start..end], situation) {
+        if cells_match(&bytes[start..end], situation) {
             return true;
         }
-        i += 1;
     }
     false
 }

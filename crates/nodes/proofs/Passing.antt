@@ -34,3 +34,6 @@ module _ (nodes : List ℕ) (start : ℕ) where
   pub past-column : {node : Node} {k r : ℕ} → node ≡ Column k → r ≡ start + turns (drop start nodes) → r ≡ past node nodes start
   unfolding past
   past-column n e = rw n e
+
+-- The ways out of the loop over turns.
+pub ruleset turn_laws = (passed_none, passed-more, passed-other, passed-all)

@@ -1,13 +1,11 @@
 -- Node arrays: what each node does to the stack's height and to its answers, and what a whole array answers at a situation.
-use Rattle.std.specs.Prelude.{ℕ, suc, ◌+◌, ◌-◌, true, cond, List, [], ◌∷◌, ltb, eqb, length, drop, get_or}
-use Rattle.refusals.specs.Meaning.{none, refused, after, NODE, COLUMN, UNDER, DEEP, END}
-use Rattle.refusals.specs.declared.Refusal.{Refusal}
-use Rattle.answers.specs.Meaning.{from_number, negate, turn, meet, join, succeed}
+use Rattle.std.specs.Prelude.{ℕ, suc, ◌+◌, ◌-◌, true, cond, List, [], ◌∷◌, ltb, eqb, length, drop, get_or, Result, Ok, Err}
+use Rattle.refusals.specs.Meaning.{Numbers, none, refused, after, NODE, COLUMN, UNDER, DEEP, END, kind_number}
+use Rattle.refusals.specs.declared.Kind.{Kind}
+use Rattle.answers.specs.Meaning.{Reply, from_number, negate, turn, meet, join, succeed}
 use Rattle.answers.specs.declared.Answer.{Answer}
 use Rattle.answers.specs.declared.Answer.TheVariants.{Silent}
-use Rattle.answers.specs.declared.Reply.{Reply}
 use Rattle.situations.specs.Meaning.{fault, answers_of}
-use Rattle.nodes.specs.declared.Climbed.{Climbed}
 use Rattle.nodes.specs.declared.Node.{Node}
 use Rattle.nodes.specs.declared.Node.TheVariants.{Constant, Negate, Turn, Meet, Join, Column, Foreign}
 use Rattle.nodes.specs.declared.Profile.{Profile}
@@ -27,12 +25,21 @@ node_of b =
 abbrev pub full : Profile
 full = record { places = 16; joins = true }
 
--- Where a node leads: to a height of the stack, or to the number of a refusal.
+-- Where a node leads: the stack's height after it, or the number of a refusal, with height 0.
+pub record Climbed : Type 0 where
+  pub height : ℕ
+  pub fault : ℕ
+
 abbrev pub to : ℕ → Climbed
 to height = record { height = height; fault = 0 }
 
 abbrev pub stop : ℕ → Climbed
 stop number = record { height = 0; fault = number }
+
+-- The same of a result.
+abbrev pub climbed : Result ℕ Kind → Climbed
+climbed (Ok height) = to height
+climbed (Err kind) = stop (kind_number kind)
 
 -- "A push onto 16, DEEP."
 abbrev pub climb_push : ℕ → ℕ → Climbed
@@ -64,18 +71,18 @@ act s Join stack = join (get_or stack 1 Silent) (get_or stack 0 Silent) ∷ drop
 act s Foreign stack = stack
 
 -- "Afterwards a stack not holding exactly one, END, place the array's length."
-abbrev pub end_fault : ℕ → ℕ → Refusal
+abbrev pub end_fault : ℕ → ℕ → Numbers
 end_fault place height = cond (eqb height 1) none (refused END place)
 
 -- The refusal of the nodes from a place on, by the stack's height alone.
-unfoldable pub heights : Profile → ℕ → ℕ → ℕ → List ℕ → Refusal
+unfoldable pub heights : Profile → ℕ → ℕ → ℕ → List ℕ → Numbers
 heights profile n place height [] = end_fault place height
 heights profile n place height (b ∷ nodes) =
     after (refused (climb profile n (node_of b) height).fault place) (λ r. r)
     (heights profile n (suc place) (climb profile n (node_of b) height).height nodes)
 
 -- A check comes first: where it refuses, no answer is given.
-abbrev pub reply_after : Refusal → Reply → Reply
+abbrev pub reply_after : Numbers → Reply → Reply
 reply_after check reply = after check (λ r. record { refusal = r; answer = Silent }) reply
 
 -- What is left on the stack after the last node.

@@ -1,18 +1,17 @@
 // Node arrays: what a byte stands for, what each node does to the stack's height, and where a run goes on behind it.
 //
 // It promises this for any byte, any height and any number of columns, to every machine alike, and defines what a whole
-// array answers at a situation. It refuses nothing itself: `climb` says with which number a machine refuses a node. That
-// is NODE for a byte that is no node, COLUMN for a column that the situation has not, UNDER for too few operands, and
-// DEEP for a push onto a full stack; of a column's two, COLUMN comes first.
+// array answers at a situation. It refuses nothing itself: `climb` says why a machine refuses a node. That is NODE for a
+// byte that is no node, COLUMN for a column that the situation has not, UNDER for too few operands, and DEEP for a push
+// onto a full stack; of a column's two, COLUMN comes first.
 
 #![tactic(auto)]
 
-ghost use Rattle.std.specs.Prelude.{◌≡◌, cond, ◌+◌, ◌-◌, ltb, drop};
-ghost use Rattle.nodes.specs.Meaning.{node_of, full, climb, turns, past};
-ghost use Rattle.nodes.specs.Inside.{taken, Fits};
+ghost use Rattle.std.specs.Prelude.{◌≡◌, ◌+◌, drop};
+ghost use Rattle.nodes.specs.Meaning.{node_of, full, climb_push, climb_down, climb, climbed, turns, past};
 
 use answers::Answer;
-use refusals::{COLUMN, DEEP, NODE, UNDER};
+use refusals::Kind;
 
 // A node's byte, sorted.
 #[derive(Clone, Copy)]
@@ -33,42 +32,35 @@ pub struct Profile {
     pub joins: bool,
 }
 
-// Where a node leads: the stack's height after it, or the number of a refusal, with height 0.
-#[derive(Clone, Copy)]
-pub struct Climbed {
-    pub height: usize,
-    pub fault: u8,
-}
+// What a byte stands for. A compiled table's columns and meets are told first: one match on ranges was tried, and takes an eighth more
+// instructions in an evaluation, since it jumps through a table.
+impl From<u8> for Node {
+    ghost from_gives = { λ b n. n ≡ node_of b };
 
-// What a byte stands for. A run over a compiled table meets columns most often, then meets; it does the turns behind a
-// column at once and seldom meets one by itself. No four tests for equality stand in a row: they would become a jump
-// through a table, which takes more instructions.
-pub fn decode(b: u8) -> Node
-    ensures { result ≡ node_of b }
-{
-    if 16 <= b {
-        if b < 22 {
-            let byte = b as usize;
-            return Node::Column(byte - 16);
+    fn from(b: u8) -> Node {
+        if 16 <= b {
+            if b < 22 {
+                return Node::Column(b as usize - 16);
+            }
+            return Node::Foreign;
         }
-        return Node::Foreign;
-    }
-    if b == 6 {
-        return Node::Meet;
-    }
-    if 6 < b {
-        if b == 7 {
-            return Node::Join;
+        if b == 6 {
+            return Node::Meet;
         }
-        return Node::Foreign;
+        if 6 < b {
+            if b == 7 {
+                return Node::Join;
+            }
+            return Node::Foreign;
+        }
+        if b == 4 {
+            return Node::Negate;
+        }
+        if b < 4 {
+            return Node::Constant(Answer::from(b));
+        }
+        Node::Turn
     }
-    if b == 4 {
-        return Node::Negate;
-    }
-    if b < 4 {
-        return Node::Constant(answers::from_number(b));
-    }
-    Node::Turn
 }
 
 // Sixteen places and all nodes.
@@ -81,78 +73,63 @@ pub fn full() -> Profile
     }
 }
 
-// The number of a refusal, or 0 where one count is below another.
-fn unless_below(less: usize, more: usize, number: u8) -> u8
-    ensures { result ≡ cond (ltb less more) 0 number }
+// The height behind a push, which needs room for one answer.
+fn push(height: usize, places: usize) -> Result<usize, Kind>
+    ensures { climbed result ≡ climb_push places height }
 {
-    if less < more { 0 } else { number }
+    if height < places {
+        Ok(height + 1)
+    } else {
+        Err(Kind::Deep)
+    }
 }
 
-// The number with which a node is refused, or 0: a push needs room, an operator one operand more than it leaves fewer.
-#[tactic(auto, using(crate::proofs::Climbing::fault_laws))]
-fn node_fault(node: Node, height: usize, columns: usize, places: usize, joins: bool) -> u8
-    ensures { result ≡ (climb (record { places = places; joins = joins }) columns node height).fault }
+// The height behind an operator, which needs one operand more than it leaves fewer.
+fn operate(fewer: usize, height: usize) -> Result<usize, Kind>
+    ensures { climbed result ≡ climb_down fewer height }
+{
+    if fewer < height {
+        Ok(height - fewer)
+    } else {
+        Err(Kind::Under)
+    }
+}
+
+// What a node does to the stack's height.
+#[tactic(auto, unfolding(crate::specs::Meaning::climb))]
+pub fn climb(node: Node, height: usize, columns: usize, profile: Profile) -> Result<usize, Kind>
+    ensures { climbed result ≡ climb profile columns node height }
 {
     match node {
-        Node::Turn => unless_below(0, height, UNDER),
+        Node::Turn => operate(0, height),
         Node::Column(k) => if k < columns {
-            unless_below(height, places, DEEP)
+            push(height, profile.places)
         } else {
-            COLUMN
+            Err(Kind::Column)
         },
-        Node::Meet => unless_below(1, height, UNDER),
-        Node::Join => if joins {
-            unless_below(1, height, UNDER)
+        Node::Meet => operate(1, height),
+        Node::Join => if profile.joins {
+            operate(1, height)
         } else {
-            NODE
+            Err(Kind::Node)
         },
-        Node::Negate => unless_below(0, height, UNDER),
-        Node::Constant(_) => unless_below(height, places, DEEP),
-        Node::Foreign => NODE,
+        Node::Negate => operate(0, height),
+        Node::Constant(_) => push(height, profile.places),
+        Node::Foreign => Err(Kind::Node),
     }
 }
 
-// The height behind a node that is not refused: one answer stands in place of the operands.
-fn height_behind(node: Node, height: usize) -> usize
-    requires { Fits node height }
-    ensures { result ≡ height + 1 - taken node }
-{
-    match node {
-        Node::Column(_) => height + 1,
-        Node::Meet => height - 1,
-        Node::Join => height - 1,
-        Node::Constant(_) => height + 1,
-        _ => height,
-    }
-}
-
-// What a node does to the stack's height. The fault is found first and the height only behind it: in one match the
-// heights would be selected, which takes more instructions than a jump that is never taken.
-pub fn climb(node: Node, height: usize, columns: usize, profile: Profile) -> Climbed
-    ensures { result ≡ climb profile columns node height }
-{
-    let fault = node_fault(node, height, columns, profile.places, profile.joins);
-    if fault != 0 {
-        return Climbed { height: 0, fault };
-    }
-    Climbed {
-        height: height_behind(node, height),
-        fault,
-    }
-}
-
-// The first place, from one on, where no turn stands.
+// The first place, from one on, where no turn (node 5) stands.
+#[tactic(auto, using(crate::proofs::Passing::turn_laws))]
 fn past_turns(nodes: &[u8], from: usize) -> usize
     ensures { result ≡ from + turns (drop from nodes.now) }
 {
-    let mut at = from;
-    while at < nodes.len() {
+    for at in from..nodes.len() {
         if nodes[at] != 5 {
             return at;
         }
-        at += 1;
     }
-    at
+    from.max(nodes.len())
 }
 
 // Where a run goes on after the node before `from`: in a compiled table turns follow columns, and are done at once.

@@ -1,19 +1,21 @@
 -- Facts are counted until a field is refused or the notice ends, and what is wrong there is what is wrong with the notice.
 use Prim.Native.Nat.{ℕ, zero, suc, ◌+◌, ◌-◌, ◌*◌, ◌≤◌, ◌<◌}
-use mathlib.Core.Path.{◌≡◌, refl, sym, ap, ◌∙◌}
+use mathlib.Core.Path.{◌≡◌, refl, sym, ap, ◌∙◌, subst}
 use mathlib.Core.Bool.{Bool, true, false, cond}
 use mathlib.Core.List.{List, []}
 use native.Mathlib.Omega.{arith}
 use lib.ListN.{length, get_or, take, drop, length-drop}
 use lib.Seq.{get_or-drop, drop-drop}
 use borrow.Author.Tests.{lt-ltb, le-ltb, eq-eqb, ne_eqb}
+use Rattle.std.specs.Prelude.{Result, Err}
+use Rattle.refusals.specs.Meaning.{Numbers, none, numbers}
 use Rattle.refusals.specs.declared.Refusal.{Refusal}
-use Rattle.refusals.specs.Meaning.{none}
 use Rattle.fields.specs.Meaning.{two, two_at}
 use Rattle.fields.proofs.Rests.{rest-is}
-use Rattle.notices.specs.Meaning.{Fact, Reading, facts, refused, followed, first_fact, fault, read_rest, noticed, notice_of}
+use Rattle.notices.specs.Meaning.{Fact, Reading, facts, refused, followed, first_fact, fault, read_rest, noticed, notice_of, facts_read}
 use Rattle.notices.specs.Inside.{sound, sounds, least_at}
 use Rattle.notices.proofs.Faults.{Sound, fault-none}
+use Rattle.notices.proofs.Found.{Found, read_rest-found}
 use Rattle.notices.proofs.SoundFields.{no_fault, sound-is, unsound}
 
 -- One field after another.
@@ -40,6 +42,9 @@ module _ (before least : ℕ) (s : List ℕ) {b : Bool} (e : b ≡ sound (32 - b
         let q : sound (suc (32 - (before + 1))) least s ≡ true = rw (← k) (sym e ∙ h) in
         w ∙ (rw (rest-is 9 s, l, k, q) (omega arith))
 
+-- What `count_facts` gives.
+pub ruleset count_laws = (count_stops, field-sound, count_passes)
+
 -- What reading gives where the counting ends.
 abbrev pub Ended : ℕ → Reading → Type 0
 Ended count (facts fs) = length fs ≡ count
@@ -59,7 +64,7 @@ same-fault : {left left' at at' least least' : ℕ} {s s' : List ℕ} → left �
 same-fault e f g h = rw (e, f, g, h)
 
 -- the fault of the field behind so many fields of a rest
-abbrev fault_from : ℕ → ℕ → ℕ → List ℕ → ℕ → Refusal
+abbrev fault_from : ℕ → ℕ → ℕ → List ℕ → ℕ → Numbers
 fault_from left at least s count = fault (left - count) (at + 9 * count) (least_from least s count) (drop (9 * count) s)
 
 no_field : (left at least : ℕ) (s : List ℕ) → length s ≡ 0 → read_rest left at least s ≡ facts []
@@ -95,7 +100,7 @@ led_none left at least s q =
       stopped = λ h. bad_field left at least s h q ∙ ap refused (same-fault (omega arith) (omega arith) refl refl);
     }
 
-refused-more : (f : Fact) {r : Reading} {x y : Refusal} → r ≡ refused x → x ≡ y → followed f r ≡ refused y
+refused-more : (f : Fact) {r : Reading} {x y : Numbers} → r ≡ refused x → x ≡ y → followed f r ≡ refused y
 refused-more f e h = rw (e, h)
 
 two-behind : (s : List ℕ) (at : ℕ) → two_at (drop 9 s) at ≡ two_at s (9 + at)
@@ -155,6 +160,9 @@ least-next s at h e =
     let k : at - 6 + 1 ≡ at - 5 = omega arith in
     rw (le-ltb at 9 h, k, e)
 
+-- What `least_at` returns.
+pub ruleset least_laws = (least_first, least-next)
+
 few : (left least : ℕ) (s : List ℕ) → sounds left least s ≤ left
 unfolding sounds
 few zero least s = omega arith
@@ -172,13 +180,33 @@ module _ (s : List ℕ) {count : ℕ} (e : count ≡ 0 + sounds 32 0 s) where
   whole : Led 32 0 0 s count
   whole = let f : sounds 32 0 s ≡ count = omega (arith, e) in rw f at (led 32 0 0 s)
 
-  pub notice-ends : {r : Refusal} → length s ≤ count * 9 → r ≡ none → record { refusal = r; facts = count } ≡ notice_of s
-  notice-ends h w = rw w (ended_noticed count (read_rest 32 0 0 s) (whole.ended (omega arith)))
+  pub notice-ends : length s ≤ count * 9 → record { refusal = none; facts = count } ≡ notice_of s
+  notice-ends h = ended_noticed count (read_rest 32 0 0 s) (whole.ended (omega arith))
 
-  pub notice_stops : {r : Refusal} {least : ℕ} → count * 9 < length s → least ≡ least_at s (count * 9) →
-      r ≡ fault (32 - count) (count * 9) least (take (length s - count * 9) (drop (count * 9) s)) →
-      record { refusal = r; facts = 0 } ≡ notice_of s
-  notice_stops {r} {least} h l w =
-      let f : count * 9 ≡ 9 * count = omega arith in
-      let same : r ≡ fault_from 32 0 0 s count = w ∙ same-fault refl (omega arith) (l ∙ least-is s count) (rest-is (count * 9) s ∙ rw f) in
-      sym (ap noticed (whole.stopped (omega arith)) ∙ rw (← same))
+  -- the field where the counting stops
+  module _ {least : ℕ} (h : count * 9 < length s) (l : least ≡ least_at s (count * 9)) {r : Numbers}
+      (w : r ≡ fault (32 - count) (count * 9) least (take (length s - count * 9) (drop (count * 9) s))) where
+    stops : read_rest 32 0 0 s ≡ refused r
+    stops =
+        let f : count * 9 ≡ 9 * count = omega arith in
+        whole.stopped (omega arith) ∙ ap refused (sym (w ∙ same-fault refl (omega arith) (l ∙ least-is s count) (rest-is (count * 9) s ∙ rw f)))
+
+    -- it is refused
+    stops_refused : r ≡ none → ⊥
+    stops_refused n =
+        let P : Reading → Type 0 = Found 32 s in
+        let f : Found 32 s (refused r) = subst P stops (read_rest-found 32 0 0 s) in
+        f (ap (λ (r : Numbers). r.number) n)
+
+  module _ {least : ℕ} (h : count * 9 < length s) (l : least ≡ least_at s (count * 9)) where
+    pub notice_stops : (q : Result ℕ Refusal) (x : Refusal) →
+        numbers x ≡ fault (32 - count) (count * 9) least (take (length s - count * 9) (drop (count * 9) s)) → q ≡ Err x →
+        facts_read q ≡ notice_of s
+    notice_stops q x w i = rw i (sym (ap noticed (stops h l w)))
+
+    pub notice-refused : none ≡ fault (32 - count) (count * 9) least (take (length s - count * 9) (drop (count * 9) s)) →
+        record { refusal = none; facts = count } ≡ notice_of s
+    notice-refused w = absurd (stops_refused h l w refl)
+
+-- What `read_notice` gives.
+pub ruleset notice_laws = (notice-few, notice-ends, notice_stops, notice-refused)

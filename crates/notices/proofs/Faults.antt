@@ -7,23 +7,22 @@ use native.Mathlib.Omega.{arith}
 use lib.Dec.{ltb, eqb}
 use lib.ListN.{length, get_or}
 use borrow.Author.Tests.{lt-ltb, le-ltb, ltb-false, eqb-true, eqb-false, eq-eqb, ne_eqb}
-use Rattle.refusals.specs.declared.Refusal.{Refusal}
-use Rattle.refusals.specs.Meaning.{none, refused, SHORT, TAG, LEN, RISE, FACTS}
+use Rattle.refusals.specs.Meaning.{Numbers, none, refused, SHORT, TAG, LEN, RISE, FACTS}
 use Rattle.fields.specs.Meaning.{two, two_at, tag, size, short_header, short_value}
 use Rattle.notices.specs.Meaning.{first_fact, fault}
 
 module _ (before at least : ℕ) (s : List ℕ) where
-  pub fault_header : {b : Bool} {r : Refusal} → b ≡ short_header s → b ≡ true → r ≡ refused SHORT at → r ≡ fault (32 - before) at least s
+  pub fault_header : {b : Bool} {r : Numbers} → b ≡ short_header s → b ≡ true → r ≡ refused SHORT at → r ≡ fault (32 - before) at least s
   unfolding fault
   fault_header e h w = w ∙ rw (← e, h)
 
   module _ {b : Bool} (e : b ≡ short_header s) (h : b ≡ false) {t : ℕ} (f : t ≡ tag s) where
-    pub fault-tag : {r : Refusal} → (t ≡ 16 → ⊥) → r ≡ refused TAG at → r ≡ fault (32 - before) at least s
+    pub fault-tag : {r : Numbers} → (t ≡ 16 → ⊥) → r ≡ refused TAG at → r ≡ fault (32 - before) at least s
     unfolding fault
     fault-tag i w = w ∙ rw (← e, h, ← f, ne_eqb t 16 i)
 
     module _ (i : t ≡ 16) where
-      pub fault-full : {r : Refusal} → 32 ≤ before → r ≡ refused FACTS at → r ≡ fault (32 - before) at least s
+      pub fault-full : {r : Numbers} → 32 ≤ before → r ≡ refused FACTS at → r ≡ fault (32 - before) at least s
       unfolding fault
       fault-full l w = w ∙ rw (← e, h, ← f, eq-eqb t 16 i, eq-eqb (32 - before) 0 (omega arith))
 
@@ -31,27 +30,30 @@ module _ (before at least : ℕ) (s : List ℕ) where
         room : eqb (32 - before) 0 ≡ false
         room = ne_eqb (32 - before) 0 (λ e. omega (arith, e))
 
-        pub fault-length : {r : Refusal} → (n ≡ 6 → ⊥) → r ≡ refused LEN at → r ≡ fault (32 - before) at least s
+        pub fault-length : {r : Numbers} → (n ≡ 6 → ⊥) → r ≡ refused LEN at → r ≡ fault (32 - before) at least s
         unfolding fault
         fault-length k w = w ∙ rw (← e, h, ← f, eq-eqb t 16 i, room, ← g, ne_eqb n 6 k)
 
         module _ (k : n ≡ 6) {b' : Bool} (e' : b' ≡ short_value 6 s) where
-          pub fault-value : {r : Refusal} → b' ≡ true → r ≡ refused SHORT at → r ≡ fault (32 - before) at least s
+          pub fault-value : {r : Numbers} → b' ≡ true → r ≡ refused SHORT at → r ≡ fault (32 - before) at least s
           unfolding fault
           fault-value h' w = w ∙ rw (← e, h, ← f, eq-eqb t 16 i, room, ← g, eq-eqb n 6 k, ← e', h')
 
           module _ (h' : b' ≡ false) {m : ℕ} (j : m ≡ two (get_or s 3 0) (get_or s 4 0)) where
-            pub fault_rise : {r : Refusal} → m < least → r ≡ refused RISE at → r ≡ fault (32 - before) at least s
+            pub fault_rise : {r : Numbers} → m < least → r ≡ refused RISE at → r ≡ fault (32 - before) at least s
             unfolding fault
             fault_rise q w = w ∙ rw (← e, h, ← f, eq-eqb t 16 i, room, ← g, eq-eqb n 6 k, ← e', h', ← j, lt-ltb m least q)
 
-            pub fault-done : {r : Refusal} → least ≤ m → r ≡ none → r ≡ fault (32 - before) at least s
+            pub fault-done : {r : Numbers} → least ≤ m → r ≡ none → r ≡ fault (32 - before) at least s
             unfolding fault
             fault-done q w = w ∙ rw (← e, h, ← f, eq-eqb t 16 i, room, ← g, eq-eqb n 6 k, ← e', h', ← j, le-ltb m least q)
 
 -- where the value does not run past the end, the field stands whole
 pub value-whole : (s : List ℕ) {b : Bool} → b ≡ short_value 6 s → b ≡ false → 9 ≤ length s
 value-whole s e h = ltb-false (length s) 9 (sym e ∙ h)
+
+-- What `check` gives.
+pub ruleset fault_laws = (fault_header, fault-tag, fault-full, fault-length, fault-value, fault_rise, fault-done, value-whole)
 
 pub record Sound (left least : ℕ) (s : List ℕ) : Type 0 where
   pub tagged : tag s ≡ 16

@@ -7,8 +7,7 @@ use native.Mathlib.Omega.{arith}
 use lib.Dec.{eqb}
 use lib.ListN.{length, drop}
 use borrow.Author.Tests.{lt-ltb, le-ltb, eqb-true, eqb-false}
-use Rattle.refusals.specs.declared.Refusal.{Refusal}
-use Rattle.refusals.specs.Meaning.{after}
+use Rattle.refusals.specs.Meaning.{Numbers, after}
 use Rattle.notices.specs.Meaning.{Reading, facts, refused, followed, first_fact, fault, read_rest, facts_in}
 use Rattle.notices.proofs.Faults.{fault-none}
 
@@ -26,7 +25,7 @@ unfolding facts_in
 next left s h (facts fs) e = rw (le-ltb (length s) 9 h) (ap (λ fs. first_fact s ∷ fs) e)
 next left s h (refused r) e = e
 
-judge : (left : ℕ) (s : List ℕ) (x : Refusal) (r : Reading) → (x.number ≡ 0 → Found left s r) → Found left s (after x refused r)
+judge : (left : ℕ) (s : List ℕ) (x : Numbers) (r : Reading) → (x.number ≡ 0 → Found left s r) → Found left s (after x refused r)
 judge left s x r h = go (eqb x.number 0) refl
   where
     go : (b : Bool) → eqb x.number 0 ≡ b → Found left s (cond b r (refused x))

@@ -7,8 +7,7 @@ use native.Mathlib.Omega.{arith}
 use lib.Dec.{ltb, leb}
 use lib.ListN.{length, get_or}
 use borrow.Author.Tests.{le-ltb, le-leb, lt-leb, eq-eqb, ne_eqb, eqb-true, eqb-false, ltb-true, ltb-false}
-use Rattle.refusals.specs.declared.Refusal.{Refusal}
-use Rattle.refusals.specs.Meaning.{none}
+use Rattle.refusals.specs.Meaning.{Numbers, none}
 use Rattle.fields.specs.Meaning.{two, tag, size}
 use Rattle.notices.specs.Meaning.{first_fact, fault}
 use Rattle.notices.specs.Inside.{sound}
@@ -44,7 +43,7 @@ sound_no left least s h = go (sound left least s) refl
 
 pub unsound : (left least : ℕ) (s : List ℕ) → sound left least s ≡ false → Sound left least s → ⊥
 unfolding sound
-unsound left least s q x = eqb-false (fault left 0 least s).number 0 q (ap (λ (r : Refusal). r.number) (no_fault left 0 least s x))
+unsound left least s q x = eqb-false (fault left 0 least s).number 0 q (ap (λ (r : Numbers). r.number) (no_fault left 0 least s x))
 
 -- The tests of a field, one by one.
 module _ (before least : ℕ) (s : List ℕ) where
@@ -74,3 +73,6 @@ module _ (before least : ℕ) (s : List ℕ) where
           rw (le-leb least m r)
           (sound_yes (32 - before) least s
           (record { tagged = sym e ∙ h; room = omega arith; sized = sym f ∙ k; whole = w; rises = rw j at r }))
+
+-- What `sound` returns.
+pub ruleset sound_laws = (sound-short, sound-tag, sound-full, sound-length, sound_rise)

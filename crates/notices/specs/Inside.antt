@@ -1,5 +1,5 @@
 -- Private definitions, for the functions within this crate. Nothing here has to be believed: the promises cite Meaning alone.
-use Rattle.std.specs.Prelude.{ℕ, zero, suc, ◌+◌, ◌-◌, ◌/◌, Bool, cond, List, ltb, eqb, length, drop}
+use Rattle.std.specs.Prelude.{ℕ, zero, suc, ◌+◌, ◌-◌, Bool, cond, List, ltb, eqb, drop}
 use Rattle.fields.specs.Meaning.{two_at}
 use Rattle.notices.specs.Meaning.{fault, first_fact}
 
@@ -15,7 +15,3 @@ sounds (suc left) least s = cond (sound (suc left) least s) (suc (sounds left ((
 -- The least number that the fact at an offset may have.
 unfoldable pub least_at : List ℕ → ℕ → ℕ
 least_at s at = cond (ltb at 9) 0 (two_at s (at - 6) + 1)
-
--- How many fields are looked through for a fact.
-abbrev pub fields_in : List ℕ → ℕ
-fields_in s = cond (ltb 32 (length s / 9)) 32 (length s / 9)

@@ -1,12 +1,9 @@
 -- Notices: how their bytes are read, and the lists of facts that they encode.
-use Rattle.std.specs.Prelude.{ℕ, zero, suc, ◌+◌, ◌≤◌, ◌<◌, Bool, true, false, cond, List, [], ◌∷◌, ◌++◌, ltb, leb, eqb, length, drop}
-use Rattle.refusals.specs.declared.Refusal.{Refusal}
+use Rattle.std.specs.Prelude.{ℕ, zero, suc, ◌+◌, ◌≤◌, ◌<◌, Bool, true, false, cond, List, [], ◌∷◌, ◌++◌, Option, Some, None, Result, ltb, leb, eqb, length, drop}
 use Rattle.refusals.specs.Meaning as refusal
-use Rattle.refusals.specs.Meaning.{none, after, SHORT, TAG, LEN, RISE, FACTS}
+use Rattle.refusals.specs.Meaning.{Numbers, none, after, replied, SHORT, TAG, LEN, RISE, FACTS}
+use Rattle.refusals.specs.declared.Refusal.{Refusal}
 use Rattle.fields.specs.Meaning.{two_at, four_at, two_bytes, four_bytes, field, tag, size, short_header, short_value}
-use Rattle.notices.specs.declared.Noticed.{Noticed}
-use Rattle.notices.specs.declared.Seen.{Seen}
-use Rattle.notices.specs.declared.Seen.TheVariants.{Value, Absent}
 use Rattle.notices.specs.declared.Comparison.{Comparison}
 use Rattle.notices.specs.declared.Comparison.TheVariants.{Equal, AtLeast, Below}
 
@@ -21,7 +18,7 @@ first_fact s = record { number = two_at s 3; value = four_at s 5 }
 
 -- "Order per field: SHORT header, TAG, FACTS (a 33rd), LEN, SHORT value, RISE", each at the field's offset.
 -- `left` more facts are allowed, and "its first number must also pass the last one read": it is at least `least`.
-unfoldable pub fault : ℕ → ℕ → ℕ → List ℕ → Refusal
+unfoldable pub fault : ℕ → ℕ → ℕ → List ℕ → Numbers
 fault left at least s =
     cond (short_header s) (refusal.refused SHORT at)
     (cond (eqb (tag s) 16)
@@ -36,7 +33,7 @@ fault left at least s =
 -- What reading a notice gives: its facts, or why it is refused.
 pub data Reading : Type 0 where
   facts : List Fact → Reading
-  refused : Refusal → Reading
+  refused : Numbers → Reading
 
 abbrev pub followed : Fact → Reading → Reading
 followed f (facts fs) = facts (f ∷ fs)
@@ -56,17 +53,25 @@ abbrev pub read_facts : List ℕ → Reading
 read_facts s = read_rest 32 0 0 s
 
 -- The reply says how many facts were read; in a refusal "any other result number 0".
+pub record Noticed : Type 0 where
+  pub refusal : Numbers
+  pub facts : ℕ
+
 abbrev pub noticed : Reading → Noticed
 noticed (facts fs) = record { refusal = none; facts = length fs }
 noticed (refused r) = record { refusal = r; facts = 0 }
 
+-- The same of a result.
+abbrev pub facts_read : Result ℕ Refusal → Noticed
+facts_read = replied (λ count. record { refusal = none; facts = count }) (λ n. record { refusal = n; facts = 0 })
+
 abbrev pub notice_of : List ℕ → Noticed
 notice_of s = noticed (read_facts s)
 
--- What a list of facts says of a fact.
-unfoldable pub seen : List Fact → ℕ → Seen
-seen [] fact = Absent
-seen (f ∷ fs) fact = cond (eqb f.number fact) (Value f.value) (seen fs fact)
+-- What a list of facts says of a fact: its value, or nothing where it is absent.
+unfoldable pub seen : List Fact → ℕ → Option ℕ
+seen [] fact = None
+seen (f ∷ fs) fact = cond (eqb f.number fact) (Some f.value) (seen fs fact)
 
 -- The facts in at most so many fields from the start of the bytes, whatever their headers: where a fact is looked up.
 -- Of a notice that is accepted they are the facts read.
@@ -81,9 +86,9 @@ compare AtLeast x value = leb value x
 compare Below x value = ltb x value
 
 -- "46 present"
-abbrev pub present : Seen → Bool
-present Absent = false
-present (Value x) = true
+abbrev pub present : Option ℕ → Bool
+present None = false
+present (Some x) = true
 
 -- The encoding of a list of facts, and which lists have one: "at most 32, numbers strictly rising", every field in its bytes.
 abbrev pub field_of : Fact → List ℕ

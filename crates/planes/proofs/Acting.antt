@@ -1,5 +1,5 @@
 -- One node on the stacks of all lanes: a lane's stack as a list (view), and the ways out of `act`.
-use Prim.Native.Nat.{ℕ, zero, suc, ◌+◌, ◌-◌, ◌*◌, ◌/◌, ◌%◌, ◌≤◌, ◌<◌}
+use Prim.Native.Nat.{ℕ, zero, suc, ◌+◌, ◌-◌, ◌*◌, ◌%◌, ◌≤◌, ◌<◌}
 use mathlib.Core.Path.{◌≡◌, refl, ap, ap₂, sym, ◌∙◌}
 use mathlib.Core.Bool.{Bool, true, false, cond}
 use mathlib.Core.List.{List, ◌∷◌}
@@ -11,15 +11,14 @@ use Rattle.answers.specs.Meaning.{negate, turn, meet, join}
 use Rattle.answers.specs.declared.Answer.{Answer}
 use Rattle.answers.specs.declared.Answer.TheVariants.{Silent}
 use Rattle.situations.proofs.Columns.{situation_at-column}
-use Rattle.nodes.specs.declared.Climbed.{Climbed}
 use Rattle.nodes.specs.declared.Node.{Node}
 use Rattle.nodes.specs.declared.Node.TheVariants.{Constant, Negate, Turn, Meet, Join, Column, Foreign}
-use Rattle.nodes.specs.Meaning.{full, to, climb_push, climb_down, climb, act}
+use Rattle.nodes.specs.Meaning.{Climbed, full, to, climb_push, climb_down, climb, act}
 use Rattle.nodes.specs.Inside.{act_turned}
 use Rattle.nodes.proofs.Climbing.{push_clear, down_clear, column-clear}
 use Rattle.lanes.specs.Meaning.{Placed, one, two}
 use Rattle.pushes.specs.Meaning.{everywhere, column_of}
-use Rattle.planes.specs.Inside.{view, lane_at, Acting, Acted}
+use Rattle.planes.specs.Inside.{view, lane_at, Acted}
 
 -- a lane's stack
 pub length-view : (i x : ℕ) (stack : List ℕ) (h : ℕ) → length (view i x stack h) ≡ h
@@ -64,14 +63,6 @@ last_digit e l = go (ltb e 5) refl
     go true h = refl
     go false h = let m = ltb-false e 5 h in omega (arith, m)
 
--- the digit of a column
-module _ (columns : ℕ) {node : Node} (y : Acting columns node) {c : ℕ} (n : node ≡ Column c) where
-  pub column-some : 1 ≤ columns
-  column-some = let l = y.column c n in omega (arith, l)
-
-  pub column-digit : c ≤ columns - 1
-  column-digit = let l = y.column c n in omega (arith, l)
-
 -- the ways out
 module _ (columns first turns place : ℕ) {node : Node} {old new : List ℕ} where
   acted :
@@ -95,34 +86,6 @@ module _ (columns first turns place : ℕ) {node : Node} {old new : List ℕ} wh
   act-constant n p =
       acted 32 p (λ height l c. let f = leads_push height place (rw n at c) in omega (arith, f.0))
       (λ height c i x. rw (n, (leads_push height place (rw n at c)).1))
-
-  pub act-column :
-      {c : ℕ} →
-      node ≡ Column c →
-      columns ≤ 6 →
-      first % 16 ≡ 0 →
-      first < 64 →
-      Placed (column_of (first / 16) (columns - 1 - c) turns) (place * 32) 32 old new →
-      Acted columns first node turns place old new
-  unfolding climb act_turned column_of
-  act-column {c} n most aligned inside p =
-      acted 32 p (λ height l e. let f = found height e in omega (arith, f.1))
-      (λ height e i x.
-      let f = found height e in
-      let words : first / 16 % 4 * 16 ≡ first = omega arith in
-      rw (
-        n,
-        f.2,
-        words,
-        last_digit (columns - 1 - c) (omega (arith, f.0)),
-        situation_at-column columns ((first + i) * 64 + x) c f.0,
-      ))
-    where
-      found : (height : ℕ) → climb full columns node height ≡ to (suc place) → (c < columns) × (place < 16) × (height ≡ place)
-      found height e =
-          let l = (column-clear full columns height c (ap (λ (q : Climbed). q.fault) (rw n at e))).0 in
-          let f = leads_push height place (rw (n, lt-ltb c columns l) at e) in
-          (l, f.0, f.1)
 
   -- one operand
   act-one :
@@ -172,6 +135,35 @@ module _ (columns first turns place : ℕ) {node : Node} {old new : List ℕ} wh
   pub act-join : node ≡ Join → Placed (two join old (place * 32)) (place * 32) 64 old new → Acted columns first node turns place old new
   unfolding climb act act_turned
   act-join n = act-two join (λ height. rw n) (λ s stack. rw n)
+
+-- a column, in one of four passes
+module _ (columns number turns place : ℕ) {node : Node} {old new : List ℕ} where
+  pub act-column :
+      {c : ℕ} →
+      node ≡ Column c →
+      columns ≤ 6 →
+      number < 4 →
+      Placed (column_of number (columns - 1 - c) turns) (place * 32) 32 old new →
+      Acted columns (number * 16) node turns place old new
+  unfolding climb act_turned column_of
+  act-column {c} n most inside p =
+      acted columns (number * 16) turns place 32 p (λ height l e. let f = found height e in omega (arith, f.1))
+      (λ height e i x.
+      let f = found height e in
+      let words : number % 4 * 16 ≡ number * 16 = omega arith in
+      rw (
+        n,
+        f.2,
+        words,
+        last_digit (columns - 1 - c) (omega (arith, f.0)),
+        situation_at-column columns ((number * 16 + i) * 64 + x) c f.0,
+      ))
+    where
+      found : (height : ℕ) → climb full columns node height ≡ to (suc place) → (c < columns) × (place < 16) × (height ≡ place)
+      found height e =
+          let l = (column-clear full columns height c (ap (λ (q : Climbed). q.fault) (rw n at e))).0 in
+          let f = leads_push height place (rw (n, lt-ltb c columns l) at e) in
+          (l, f.0, f.1)
 
 pub act_foreign : (columns first turns place : ℕ) {node : Node} (stack : List ℕ) → node ≡ Foreign → Acted columns first node turns place stack stack
 unfolding climb

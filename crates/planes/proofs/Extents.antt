@@ -1,34 +1,14 @@
 -- How many words and which of their lanes are the situations of 1 to 6 columns.
-use Prim.Native.Nat.{ℕ, zero, suc, ◌+◌, ◌*◌, ◌^◌, ◌≤◌, ◌<◌}
+use Prim.Native.Nat.{ℕ, zero, suc, ◌+◌, ◌-◌, ◌*◌, ◌%◌, ◌^◌, ◌≤◌, ◌<◌, min}
 use mathlib.Core.Path.{◌≡◌, refl, ◌∙◌}
 use mathlib.Core.Bool.{true, cond}
 use lib.Dec.{ltb, eqb}
 use borrow.Author.Tests.{eqb-true, lt-ltb}
 use native.Mathlib.Omega.{arith}
+use Rattle.std.specs.Int.{div_ceil}
 use Rattle.words.specs.Meaning.{bit, ones}
 use Rattle.words.proofs.Bits.{all_below, tested, bit-ones}
 use Rattle.planes.specs.Inside.{Within}
-
--- one pass of one word or more
-one-pass :
-    (n count lanes : ℕ) →
-    0 < count →
-    count ≤ 16 →
-    lanes < 18446744073709551616 →
-    4 ^ n ≤ count * 64 →
-    ((k x : ℕ) → k < count → x < 64 → bit x lanes ≡ cond (ltb (k * 64 + x) (4 ^ n)) 1 0) →
-    Within n (record { total = count; count = count; lanes = lanes })
-one-pass n count lanes some most small beyond inside =
-    record {
-      some = some;
-      most = most;
-      all = omega arith;
-      steps = λ done e l. omega (arith, e, l);
-      next = λ done e l. absurd (omega (arith, l));
-      lanes = inside;
-      small = small;
-      beyond = beyond;
-    }
 
 -- all lanes of all words
 all_lanes : (n total : ℕ) → total * 64 ≤ 4 ^ n → (k x : ℕ) → k < total → x < 64 → bit x ones ≡ cond (ltb (k * 64 + x) (4 ^ n)) 1 0
@@ -47,48 +27,63 @@ some_lanes n lanes h zero x l m =
     (tested (λ x. eqb (bit x lanes) (cond (ltb (0 * 64 + x) (4 ^ n)) 1 0)) 64 h x m)
 some_lanes n lanes h (suc k) x l m = absurd (omega arith)
 
-four : (n : ℕ) → 1 ≤ n → (n ≡ 1 → ⊥) → (n ≡ 2 → ⊥) → (n ≡ 3 → ⊥) → 4 ≤ n
-four n l a b c = omega (arith, a, b, c)
+few : (n lanes : ℕ) → lanes < 18446744073709551616 → 4 ^ n ≤ 64 →
+    ((k x : ℕ) → k < 1 → x < 64 → bit x lanes ≡ cond (ltb (k * 64 + x) (4 ^ n)) 1 0) →
+    Within n (record { passes = 1; count = 1; lanes = lanes })
+few n lanes small beyond inside =
+    record {
+      some = omega arith;
+      few = omega arith;
+      most = omega arith;
+      whole = λ l. absurd (omega (arith, l));
+      lanes = inside;
+      small = small;
+      beyond = beyond;
+    }
 
-six : (n : ℕ) → 4 ≤ n → n ≤ 6 → (n ≡ 4 → ⊥) → (n ≡ 5 → ⊥) → n ≡ 6
-six n l m d e = omega (arith, d, e)
+many : (n passes count : ℕ) → 0 < passes → passes ≤ 4 → count ≤ 16 → (1 < passes → count ≡ 16) → 4 ^ n ≡ ((passes - 1) * 16 + count) * 64 →
+    Within n (record { passes = passes; count = count; lanes = ones })
+many n passes count a b c d e =
+    record {
+      some = a;
+      few = b;
+      most = c;
+      whole = d;
+      lanes = all_lanes n ((passes - 1) * 16 + count) (omega (arith, e));
+      small = omega arith;
+      beyond = omega (arith, e);
+    }
 
-module _ (n : ℕ) where
-  pub extent_1 : n ≡ 1 → Within n (record { total = 1; count = 1; lanes = 15 })
+module _ {passes words count : ℕ} where
+  pub extent_few :
+      (n : ℕ) → 1 ≤ n → n ≤ 6 →
+      words ≡ div_ceil (1 * 2 ^ (2 * n) % 18446744073709551616) 64 →
+      passes ≡ div_ceil words 16 →
+      count ≡ min words 16 →
+      1 * 2 ^ (2 * n) % 18446744073709551616 < 64 →
+      Within n (record { passes = passes; count = count; lanes = 1 * 2 ^ (1 * 2 ^ (2 * n) % 18446744073709551616) % 18446744073709551616 - 1 })
   unfolding all_below
-  extent_1 e = rw e (one-pass 1 1 15 (omega arith) (omega arith) (omega arith) (omega arith) (some_lanes 1 15 refl))
+  extent_few zero l m w p c s = absurd (omega arith)
+  extent_few (suc zero) l m w p c s = rw (c, p, w) (few 1 15 (omega arith) (omega arith) (some_lanes 1 15 refl))
+  extent_few (suc (suc zero)) l m w p c s = rw (c, p, w) (few 2 65535 (omega arith) (omega arith) (some_lanes 2 65535 refl))
+  extent_few (suc (suc (suc zero))) l m w p c s = absurd (omega (arith, s))
+  extent_few (suc (suc (suc (suc zero)))) l m w p c s = absurd (omega (arith, s))
+  extent_few (suc (suc (suc (suc (suc zero))))) l m w p c s = absurd (omega (arith, s))
+  extent_few (suc (suc (suc (suc (suc (suc zero)))))) l m w p c s = absurd (omega (arith, s))
+  extent_few (suc (suc (suc (suc (suc (suc (suc n))))))) l m w p c s = absurd (omega arith)
 
-  pub extent_2 : n ≡ 2 → Within n (record { total = 1; count = 1; lanes = 65535 })
-  unfolding all_below
-  extent_2 e = rw e (one-pass 2 1 65535 (omega arith) (omega arith) (omega arith) (omega arith) (some_lanes 2 65535 refl))
-
-  pub extent_3 : n ≡ 3 → Within n (record { total = 1; count = 1; lanes = 18446744073709551615 })
-  extent_3 e = rw e (one-pass 3 1 ones (omega arith) (omega arith) (omega arith) (omega arith) (all_lanes 3 1 (omega arith)))
-
-  pub extent_4 : n ≡ 4 → Within n (record { total = 4; count = 4; lanes = 18446744073709551615 })
-  extent_4 e = rw e (one-pass 4 4 ones (omega arith) (omega arith) (omega arith) (omega arith) (all_lanes 4 4 (omega arith)))
-
-  pub extent_5 : n ≡ 5 → Within n (record { total = 16; count = 16; lanes = 18446744073709551615 })
-  extent_5 e = rw e (one-pass 5 16 ones (omega arith) (omega arith) (omega arith) (omega arith) (all_lanes 5 16 (omega arith)))
-
-  pub extent_6 :
-      1 ≤ n →
-      n ≤ 6 →
-      (n ≡ 1 → ⊥) →
-      (n ≡ 2 → ⊥) →
-      (n ≡ 3 → ⊥) →
-      (n ≡ 4 → ⊥) →
-      (n ≡ 5 → ⊥) →
-      Within n (record { total = 64; count = 16; lanes = 18446744073709551615 })
-  extent_6 some most a b c d f =
-      rw (six n (four n some a b c) most d f)
-      (record {
-        some = omega arith;
-        most = omega arith;
-        all = omega arith;
-        steps = λ done e l. omega (arith, e, l);
-        next = λ done e l. omega (arith, e);
-        lanes = all_lanes 6 64 (omega arith);
-        small = omega arith;
-        beyond = omega arith;
-      })
+  pub extent_many :
+      (n : ℕ) → 1 ≤ n → n ≤ 6 →
+      words ≡ div_ceil (1 * 2 ^ (2 * n) % 18446744073709551616) 64 →
+      passes ≡ div_ceil words 16 →
+      count ≡ min words 16 →
+      64 ≤ 1 * 2 ^ (2 * n) % 18446744073709551616 →
+      Within n (record { passes = passes; count = count; lanes = 18446744073709551615 })
+  extent_many zero l m w p c s = absurd (omega arith)
+  extent_many (suc zero) l m w p c s = absurd (omega (arith, s))
+  extent_many (suc (suc zero)) l m w p c s = absurd (omega (arith, s))
+  extent_many (suc (suc (suc zero))) l m w p c s = rw (c, p, w) (many 3 1 1 (omega arith) (omega arith) (omega arith) (λ h. absurd (omega (arith, h))) refl)
+  extent_many (suc (suc (suc (suc zero)))) l m w p c s = rw (c, p, w) (many 4 1 4 (omega arith) (omega arith) (omega arith) (λ h. absurd (omega (arith, h))) refl)
+  extent_many (suc (suc (suc (suc (suc zero))))) l m w p c s = rw (c, p, w) (many 5 1 16 (omega arith) (omega arith) (omega arith) (λ h. refl) refl)
+  extent_many (suc (suc (suc (suc (suc (suc zero)))))) l m w p c s = rw (c, p, w) (many 6 4 16 (omega arith) (omega arith) (omega arith) (λ h. refl) refl)
+  extent_many (suc (suc (suc (suc (suc (suc (suc n))))))) l m w p c s = absurd (omega arith)

@@ -21,8 +21,7 @@ use Rattle.situations.specs.Meaning.{situation_at}
 use Rattle.situations.proofs.Weights.{power_small}
 use Rattle.nodes.specs.Meaning.{full, run, evaluate_of}
 use Rattle.running.proofs.Heights.{evaluate-columns}
-use Rattle.planes.specs.declared.Planes.{Planes}
-use Rattle.planes.specs.Meaning.{lane, answer_at, bury_at, keep_at, planes_of}
+use Rattle.planes.specs.Meaning.{Filled, lane, answer_at, bury_at, keep_at, planes_of}
 use Rattle.planes.proofs.Filling.{below_or_not}
 
 -- words put together from bits
@@ -66,7 +65,7 @@ module _ (nodes : List ℕ) (n : ℕ) where
   lane-beyond : (w : ℕ) → 4096 ≤ w → lane (words_from (bury_at nodes n) 64 0) (words_from (keep_at nodes n) 64 0) w ≡ Silent
   lane-beyond w l = rw (word_no_bit (bury_at nodes n) bury-bit w l, word_no_bit (keep_at nodes n) keep_bit w l)
 
-  module _ {p : Planes} (e : p ≡ planes_of nodes n) where
+  module _ {p : Filled} (e : p ≡ planes_of nodes n) where
     -- the array is refused as the evaluator refuses it, or not at all
     pub planes_refused : (p.refusal.number ≡ 0 → ⊥) → p.refusal ≡ (evaluate_of nodes (replicate n 0)).refusal
     unfolding planes_of
@@ -76,8 +75,8 @@ module _ (nodes : List ℕ) (n : ℕ) where
             (t : Bool) →
             eqb (evaluate_of nodes (replicate n 0)).refusal.number 0 ≡ t →
             p.refusal ≡ (evaluate_of nodes (replicate n 0)).refusal
-        go true q = absurd (h (ap (λ (x : Planes). x.refusal.number) (rw q at e)))
-        go false q = ap (λ (x : Planes). x.refusal) (rw q at e)
+        go true q = absurd (h (ap (λ (x : Filled). x.refusal.number) (rw q at e)))
+        go false q = ap (λ (x : Filled). x.refusal) (rw q at e)
 
     pub planes_fine : p.refusal.number ≡ 0 → (evaluate_of nodes (replicate n 0)).refusal.number ≡ 0
     unfolding planes_of
@@ -88,7 +87,7 @@ module _ (nodes : List ℕ) (n : ℕ) where
             eqb (evaluate_of nodes (replicate n 0)).refusal.number 0 ≡ t →
             (evaluate_of nodes (replicate n 0)).refusal.number ≡ 0
         go true q = eqb-true (evaluate_of nodes (replicate n 0)).refusal.number 0 q
-        go false q = sym (ap (λ (x : Planes). x.refusal.number) (rw q at e)) ∙ h
+        go false q = sym (ap (λ (x : Filled). x.refusal.number) (rw q at e)) ∙ h
 
     -- one that is not refused
     module _ (h : (evaluate_of nodes (replicate n 0)).refusal.number ≡ 0) where
@@ -97,7 +96,7 @@ module _ (nodes : List ℕ) (n : ℕ) where
       planes_are = rw (eq-eqb (evaluate_of nodes (replicate n 0)).refusal.number 0 h) at e
 
       pub planes_none : p.refusal ≡ none
-      planes_none = ap (λ (x : Planes). x.refusal) planes_are
+      planes_none = ap (λ (x : Filled). x.refusal) planes_are
 
       pub bury-size : length p.bury ≡ 64
       bury-size = rw planes_are (length-words_from (bury_at nodes n) 64 0)

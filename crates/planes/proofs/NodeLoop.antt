@@ -4,23 +4,25 @@ use mathlib.Core.Path.{◌≡◌, refl, ap, sym, ◌∙◌}
 use mathlib.Core.List.{List, []}
 use lib.ListN.{length, drop, get_or, drop_of_length-le}
 use lib.Seq.{drop-cons}
-use borrow.Author.Tests.{lt-ltb, eq-eqb, ne_eqb}
+use borrow.Author.Tests.{lt-ltb, ne_eqb}
 use native.Mathlib.Numerals.{add-one}
 use native.Mathlib.Omega.{arith}
-use Rattle.refusals.specs.Meaning.{none, refused, END}
+use Rattle.std.specs.Prelude.{Result, Ok, Err}
+use Rattle.refusals.specs.Meaning.{Numbers, none, refused, numbers, checked, refusal_at}
+use Rattle.refusals.specs.declared.Kind.{Kind}
+use Rattle.refusals.specs.declared.Kind.TheVariants.{End}
 use Rattle.refusals.specs.declared.Refusal.{Refusal}
-use Rattle.answers.specs.Meaning.{succeed, refuse}
+use Rattle.refusals.proofs.Checks.{refusal_counts, kind_refuses}
+use Rattle.answers.specs.Meaning.{Reply, succeed, refuse_answer}
 use Rattle.answers.specs.declared.Answer.{Answer}
-use Rattle.answers.specs.declared.Reply.{Reply}
 use Rattle.situations.proofs.Numbers.{situation_at-length}
-use Rattle.nodes.specs.declared.Climbed.{Climbed}
 use Rattle.nodes.specs.declared.Node.{Node}
 use Rattle.nodes.specs.declared.Node.TheVariants.{Constant, Negate, Turn, Meet, Join, Column, Foreign}
 use Rattle.nodes.specs.declared.Profile.{Profile}
-use Rattle.nodes.specs.Meaning.{node_of, full, to, climb, act, heights, reply_after, finish, run, past}
+use Rattle.nodes.specs.Meaning.{Climbed, node_of, full, to, climb, climbed, act, heights, reply_after, finish, run, past}
 use Rattle.nodes.specs.Inside.{act_turned}
 use Rattle.nodes.proofs.Climbing.{climb-room, push_clear, down_clear, column-clear}
-use Rattle.running.proofs.Turning.{past-inside, run_past}
+use Rattle.running.proofs.Turning.{past-inside, run_past, next-ahead, next_less}
 use Rattle.running.proofs.Heights.{run-heights}
 use Rattle.lanes.specs.Meaning.{held}
 use Rattle.planes.specs.Inside.{view, lane_at, Acting, Acted, Running, Ran}
@@ -41,7 +43,7 @@ climb-some columns Foreign height e = absurd (omega (arith, e))
 module _ (nodes : List ℕ) (columns first : ℕ) where
   -- what one lane's run refuses is what heights say
   lane-told :
-      (k x : ℕ) {r : Refusal} {a : Answer} →
+      (k x : ℕ) {r : Numbers} {a : Answer} →
       record { refusal = r; answer = a } ≡ run full (lane_at columns first k x) 0 [] nodes →
       r ≡ heights full columns 0 0 nodes
   lane-told k x e =
@@ -49,35 +51,27 @@ module _ (nodes : List ℕ) (columns first : ℕ) where
       ∙ run-heights full (lane_at columns first k x) 0 [] nodes
       ∙ (rw (situation_at-length columns ((first + k) * 64 + x)))
 
-  -- the ways out of `run`
-  module _ {stack : List ℕ} (b : length stack ≡ 512) {r : Refusal} where
-    ran_refused :
-        {number place : ℕ} →
-        r ≡ refused number place →
-        (number ≡ 0 → ⊥) →
-        refuse number place ≡ run full (lane_at columns first 0 0) 0 [] nodes →
-        Ran nodes columns first stack r
-    ran_refused {number} {place} e x h =
-        record {
-          size = b;
-          told = e ∙ lane-told 0 0 h;
-          answered = λ z. absurd (x (ap (λ (q : Refusal). q.number) (sym e) ∙ z));
-        }
+  -- a refusal of the first lane is that of all
+  ran_refused :
+      (stack : List ℕ) (x : Refusal) →
+      refuse_answer (numbers x) ≡ run full (lane_at columns first 0 0) 0 [] nodes →
+      Ran nodes columns first stack (numbers x)
+  ran_refused stack x h = record { told = lane-told 0 0 h; answered = λ z. absurd (refusal_counts x z) }
 
   pub running_none : (stack : List ℕ) → length stack ≡ 512 → Running nodes columns first stack 0 0
   unfolding view
   running_none stack b = record { inside = omega arith; room = omega arith; size = b; rest = λ i x l m. refl }
 
   module _
-      {stack : List ℕ} (height i : ℕ) {node : Node} {profile : Profile} {c : Climbed}
+      {stack : List ℕ} (height i : ℕ) {node : Node} {profile : Profile} (q : Result ℕ Kind)
       (w : Running nodes columns first stack height i) (l : i < length nodes) (n : node ≡ node_of (get_or nodes i 0))
-      (f : profile ≡ full) (d : c ≡ climb profile columns node height) where
+      (f : profile ≡ full) (d : climbed q ≡ climb profile columns node height) where
     -- a lane's run from here, opened at its first node
     here :
         (k x : ℕ) →
         k < 16 →
         x < 64 →
-        reply_after (refused c.fault i)
+        reply_after (refused (climbed q).fault i)
         (run full (lane_at columns first k x) (suc i) (act (lane_at columns first k x) node (view k x stack height)) (drop (suc i) nodes))
         ≡ run full (lane_at columns first k x) 0 [] nodes
     unfolding run
@@ -86,43 +80,50 @@ module _ (nodes : List ℕ) (columns first : ℕ) where
         (rw (drop-cons nodes i 0 l, situation_at-length columns ((first + k) * 64 + x), length-view k x stack height)
         at (w.rest k x o m))
 
-    pub running_stopped : {r : Refusal} → (c.fault ≡ 0 → ⊥) → r ≡ refused c.fault i → Ran nodes columns first stack r
-    running_stopped x e = ran_refused w.size e x (rw (ne_eqb c.fault 0 x) at (here 0 0 (omega arith) (omega arith)))
+    pub running_stopped :
+        (r : Result Unit Refusal) (kind : Kind) (x : Refusal) →
+        q ≡ Err kind →
+        x ≡ refusal_at kind i →
+        r ≡ Err x →
+        Ran nodes columns first stack (checked r)
+    running_stopped r kind x e g j =
+        rw j (ran_refused stack x (rw g (rw (e, kind_refuses kind) at (here 0 0 (omega arith) (omega arith)))))
 
     -- one that is not refused
-    module _ (e : c.fault ≡ 0) where
+    module _ {h : ℕ} (e : q ≡ Ok h) where
+      leads : climb full columns node height ≡ to h
+      leads = rw (← f, ← d, e)
+
       clear : (climb full columns node height).fault ≡ 0
-      clear = rw (← f, ← d) e
+      clear = ap (λ (c : Climbed). c.fault) leads
+
+      height-is : (climb full columns node height).height ≡ h
+      height-is = ap (λ (c : Climbed). c.height) leads
 
       pub running_clear : Acting columns node
       running_clear = record { column = λ k m. (column-clear full columns height k (rw m at clear)).0 }
 
-      pub running_some : 1 ≤ c.height
-      running_some = rw (d, f) (climb-some columns node height clear)
-
-      leads : climb full columns node height ≡ to (suc (c.height - 1))
-      leads =
-          let h : suc (c.height - 1) ≡ c.height = omega (arith, running_some) in
-          rw h (sym (rw (← f) d) ∙ ap (λ k. record { height = c.height; fault = k }) e)
+      pub running_some : 1 ≤ h
+      running_some = rw height-is at (climb-some columns node height clear)
 
       pub running_more :
           {next : ℕ} {new : List ℕ} →
           next ≡ past node nodes (i + 1) →
-          Acted columns first node (next - (i + 1)) (c.height - 1) stack new →
-          Running nodes columns first new c.height next
+          Acted columns first node (next - (i + 1)) (h - 1) stack new →
+          Running nodes columns first new h next
       running_more {next} {new} p a =
+          let s : suc (h - 1) ≡ h = omega (arith, running_some) in
           record {
             inside = rw p (past-inside nodes (i + 1) node (omega arith));
-            room = rw (d, f) (climb-room full columns node height w.room);
+            room = rw height-is at (climb-room full columns node height w.room);
             size = a.size ∙ w.size;
             rest = λ k x o m.
-                let s = lane_at columns first k x in
-                let h : suc (c.height - 1) ≡ c.height = omega (arith, running_some) in
-                let held : view k x new c.height ≡ act_turned s node (next - (i + 1)) (view k x stack height) =
-                rw h at (a.holds w.size height w.room leads k x o m) in
-                let on : run full s (i + 1) (act s node (view k x stack height)) (drop (i + 1) nodes) ≡ run full s 0 [] nodes =
-                rw add-one (rw (eq-eqb c.fault 0 e) at (here k x o m)) in
-                rw (held, p) (sym (run_past nodes (i + 1) full s (view k x stack height) node) ∙ on);
+                let here-is = lane_at columns first k x in
+                let held : view k x new h ≡ act_turned here-is node (next - (i + 1)) (view k x stack height) =
+                rw s at (a.holds w.size height w.room (rw s leads) k x o m) in
+                let on : run full here-is (i + 1) (act here-is node (view k x stack height)) (drop (i + 1) nodes) ≡ run full here-is 0 [] nodes =
+                rw add-one (rw e at (here k x o m)) in
+                rw (held, p) (sym (run_past nodes (i + 1) full here-is (view k x stack height) node) ∙ on);
           }
 
   -- behind the last node
@@ -131,19 +132,21 @@ module _ (nodes : List ℕ) (columns first : ℕ) where
     unfolding run
     ended k x o m = rw (drop_of_length-le nodes {i = i} l) at (w.rest k x o m)
 
-    pub ended_other : {r : Refusal} → (height ≡ 1 → ⊥) → r ≡ refused END i → Ran nodes columns first stack r
-    ended_other x e =
-        ran_refused w.size e (λ z. omega (arith, z))
-        (rw (length-view 0 0 stack height, ne_eqb height 1 x) at (ended 0 0 (omega arith) (omega arith)))
+    pub ended_other : (x : Refusal) → (height ≡ 1 → ⊥) → x ≡ refusal_at End i → Ran nodes columns first stack (numbers x)
+    ended_other x h e =
+        ran_refused stack x
+        (rw e (rw (length-view 0 0 stack height, ne_eqb height 1 h) at (ended 0 0 (omega arith) (omega arith))))
 
     lane-answer : height ≡ 1 → (k x : ℕ) → k < 16 → x < 64 → succeed (held stack k x) ≡ run full (lane_at columns first k x) 0 [] nodes
     unfolding view
     lane-answer e k x o m = let z : 0 * 32 + k ≡ k = omega arith in rw (e, z) at (ended k x o m)
 
-    pub ended_one : {r : Refusal} → height ≡ 1 → r ≡ none → Ran nodes columns first stack r
-    ended_one e f =
+    pub ended_one : height ≡ 1 → Ran nodes columns first stack none
+    ended_one e =
         record {
-          size = w.size;
-          told = f ∙ lane-told 0 0 (lane-answer e 0 0 (omega arith) (omega arith));
+          told = lane-told 0 0 (lane-answer e 0 0 (omega arith) (omega arith));
           answered = λ z k x o m. ap (λ (q : Reply). q.answer) (lane-answer e k x o m);
         }
+
+-- the walk goes on and ends
+pub ruleset walk_laws = (next-ahead, next_less)

@@ -1,22 +1,29 @@
--- Pass after pass: the words of one after those of another are the answers at all situations. The ways out of `fill_all`.
-use Prim.Native.Nat.{ℕ, ◌+◌, ◌*◌, ◌%◌, ◌^◌, ◌≤◌, ◌<◌}
+-- Pass after pass: the words of one after those of another are the answers at all situations. The ways out of `fill`.
+use Prim.Native.Nat.{ℕ, ◌+◌, ◌-◌, ◌*◌, ◌^◌, ◌≤◌, ◌<◌, min}
 use mathlib.Core.Path.{◌≡◌, refl, ap, sym, ◌∙◌}
-use mathlib.Core.Logic.{⊎_elim}
+use mathlib.Core.Logic.{◌⊎◌, ⊎_elim}
 use mathlib.Core.List.{List}
-use lib.ListN.{replicate, length-replicate}
+use lib.ListN.{length, take, drop, length-drop, replicate, length-replicate}
 use borrow.Author.Tests.{le-ltb}
 use native.Mathlib.Omega.{arith}
+use borrow.Rule.Slice.PartMut.{put_mid}
+use Rattle.std.proofs.lemmas.List.{length-take-le}
 use Rattle.words.proofs.Bits.{bit-none}
-use Rattle.refusals.specs.Meaning.{none, refused, SITUATION}
+use Rattle.std.specs.Prelude.{Result, Err}
+use Rattle.refusals.specs.Meaning.{none, refused, numbers, refusal_at, SITUATION}
+use Rattle.refusals.specs.declared.Kind.TheVariants.{Situation}
 use Rattle.refusals.specs.declared.Refusal.{Refusal}
+use Rattle.refusals.proofs.Checks.{kind_refuses}
 use Rattle.situations.specs.Meaning.{fault}
 use Rattle.situations.proofs.Silent.{silent_sound, silent_short, silent_long}
-use Rattle.situations.proofs.Weights.{power_some}
 use Rattle.nodes.specs.Meaning.{full, heights, evaluate_of}
 use Rattle.running.proofs.Heights.{evaluate-heights}
 use Rattle.planes.specs.declared.Extent.{Extent}
-use Rattle.planes.specs.Inside.{Within, Filled, Filling, Passed, Answered}
-use Rattle.planes.proofs.Filling.{below_or_not}
+use Rattle.planes.specs.declared.Planes.{Planes}
+use Rattle.planes.specs.Meaning.{refuse_filled, filled, planes_of}
+use Rattle.planes.specs.Inside.{Ran, Within, Stored, FilledTo, Filling, total}
+use Rattle.planes.proofs.Filling.{below_or_not, stored_at, filled_none, filled_more}
+use Rattle.planes.proofs.Words.{bury-same, keep_same}
 
 -- what is refused is refused as at the situation that is silent everywhere
 module _ (nodes : List ℕ) (n : ℕ) where
@@ -26,84 +33,101 @@ module _ (nodes : List ℕ) (n : ℕ) where
   outside-heights : fault (replicate n 0) ≡ refused SITUATION n → (evaluate_of nodes (replicate n 0)).refusal ≡ refused SITUATION n
   outside-heights e = evaluate-heights nodes (replicate n 0) ∙ (rw e)
 
-  -- not 1 to 6 columns
-  module _ (bury keep : List ℕ) {r : Refusal} (h : r ≡ refused SITUATION n) where
-    outside-answered : fault (replicate n 0) ≡ refused SITUATION n → Answered nodes n bury keep r
-    outside-answered e =
-        record {
-          told = λ x. h ∙ sym (outside-heights e);
-          fine = λ z. absurd (never z);
-          clear = λ z. absurd (never z);
-          whole = λ z. absurd (never z);
-        }
-      where
-        never : r.number ≡ 0 → ⊥
-        never z = let y : SITUATION ≡ 0 = sym (ap (λ (q : Refusal). q.number) h) ∙ z in omega (arith, y)
+  -- the array is refused in its first pass, or it has not 1 to 6 columns
+  refused-filled : (x : Refusal) → numbers x ≡ (evaluate_of nodes (replicate n 0)).refusal → refuse_filled (numbers x) ≡ planes_of nodes n
+  unfolding planes_of
+  refused-filled x e = rw (← e, kind_refuses x.kind)
 
-    pub under-answered : n < 1 → Answered nodes n bury keep r
-    under-answered l = outside-answered (silent_short n l)
+  pub filling_refused :
+      {stack : List ℕ} {first : ℕ} (r : Result Planes Refusal) (x : Refusal) →
+      1 ≤ n →
+      n ≤ 6 →
+      Ran nodes n first stack (numbers x) →
+      r ≡ Err x →
+      filled r ≡ planes_of nodes n
+  filling_refused r x some most q j = rw j (refused-filled x (q.told ∙ sym (silent_heights some most)))
 
-    pub over-answered : 6 < n → Answered nodes n bury keep r
-    over-answered l = outside-answered (silent_long n l)
+  pub outside-filled :
+      (x : Refusal) → (n < 1) ⊎ ((1 ≤ n) × (6 < n)) → x ≡ refusal_at Situation n → refuse_filled (numbers x) ≡ planes_of nodes n
+  outside-filled x l e =
+      refused-filled x (ap numbers e ∙ sym (outside-heights (⊎_elim (λ h. silent_short n h) (λ h. silent_long n h.1) l)))
 
 -- pass after pass
-pub filling_none : (nodes : List ℕ) (n : ℕ) {e : Extent} {bury keep : List ℕ} → Within n e → Filled nodes n 0 bury keep → Filling nodes n e 0 bury keep
-filling_none nodes n w f =
-    record { within = w; filled = f; inside = omega arith; aligned = λ l. refl; fine = λ l. absurd (omega (arith, l)) }
+pub filling_none : (nodes : List ℕ) (n : ℕ) {e : Extent} → Within n e → Filling nodes n e 0 (replicate 64 0) (replicate 64 0)
+filling_none nodes n {e = e} w =
+    let z : min (0 * 16) (total e) ≡ 0 = omega arith in
+    record { within = w; counted = omega arith; filled = rw z (filled_none nodes n); fine = λ l. absurd (omega (arith, l)) }
 
-module _ (nodes : List ℕ) (n done : ℕ) {e : Extent} {bury keep : List ℕ} (f : Filling nodes n e done bury keep) where
-  pub filling_aligned : done < e.total → done % 16 ≡ 0
-  filling_aligned = f.aligned
+module _ (nodes : List ℕ) (n passes : ℕ) {e : Extent} {bury keep : List ℕ} (f : Filling nodes n e passes bury keep) where
+  -- the words of a pass, and those behind it
+  filling_fits : passes < e.passes → (passes * 16 + e.count ≤ total e) × (min ((passes + 1) * 16) (total e) ≡ passes * 16 + e.count)
+  filling_fits l =
+      let most = f.within.most in
+      ⊎_elim
+      (λ h. let c : e.count ≡ 16 = f.within.whole h in (omega (arith, l), omega (arith, l)))
+      (λ h. (omega (arith, h, l), omega (arith, h, l, most)))
+      (below_or_not 1 e.passes)
 
-  module _ {r : Refusal} {b k : List ℕ} (p : Passed nodes n done e.count b k r) where
-    pub filling_more : done < e.total → r.number ≡ 0 → Filling nodes n e (done + e.count) b k
-    filling_more l z =
-        let w : Within n e = f.within in
-        record {
-          within = w;
-          filled = p.filled z;
-          inside = w.steps done (f.aligned l) l;
-          aligned = λ h. w.next done (f.aligned l) h;
-          fine = λ h. sym (ap (λ (q : Refusal). q.number) p.told) ∙ z;
-        }
+  pub filling_more :
+      {stack b k : List ℕ} →
+      length stack ≡ 512 →
+      passes < e.passes →
+      Ran nodes n (passes * 16) stack none →
+      Stored (take e.count stack) e.lanes (length (take e.count stack)) (take (passes * 16 + e.count - passes * 16) (drop (passes * 16) bury)) b →
+      Stored (take (16 + e.count - 16) (drop 16 stack)) e.lanes (length (take (16 + e.count - 16) (drop 16 stack)))
+      (take (passes * 16 + e.count - passes * 16) (drop (passes * 16) keep))
+      k →
+      Filling nodes n e (passes + 1)
+      (put_mid (passes * 16) (passes * 16 + e.count - passes * 16) bury b)
+      (put_mid (passes * 16) (passes * 16 + e.count - passes * 16) keep k)
+  filling_more {stack} {b} {k} long l q s t =
+      let w : Within n e = f.within in
+      let most = w.most in
+      let few = w.few in
+      let fits = (filling_fits l).0 in
+      let behind = (filling_fits l).1 in
+      let inside : passes * 16 + e.count ≤ 64 = omega (arith, fits, most, few, w.some) in
+      let before : min (passes * 16) (total e) ≡ passes * 16 = omega (arith, fits) in
+      let filled : FilledTo nodes n (passes * 16) bury keep = rw before at f.filled in
+      let same : 16 + e.count - 16 ≡ e.count = omega arith in
+      let low : length (take e.count stack) ≡ e.count = length-take-le e.count stack (omega (arith, long, most)) in
+      let high : length (take e.count (drop 16 stack)) ≡ e.count =
+      length-take-le e.count (drop 16 stack) (omega (arith, long, most, length-drop 16 stack)) in
+      record {
+        within = w;
+        counted = omega arith;
+        filled = rw behind
+            (filled_more nodes n (passes * 16) e w fits filled q refl
+            (stored_at (passes * 16) e.count e.lanes (take e.count stack) (rw filled.buries inside) low s)
+            (stored_at (passes * 16) e.count e.lanes (take e.count (drop 16 stack)) (rw filled.keeps inside) high (rw same at t)));
+        fine = λ h. sym q.told;
+      }
 
-    pub filling_refused : 1 ≤ n → n ≤ 6 → (r.number ≡ 0 → ⊥) → Answered nodes n b k r
-    filling_refused some most x =
-        record {
-          told = λ y. p.told ∙ sym (silent_heights nodes n some most);
-          fine = λ z. absurd (x z);
-          clear = λ z. absurd (x z);
-          whole = λ z. absurd (x z);
-        }
-
-  filled-all : e.total ≤ done → Filled nodes n 64 bury keep
+  filled-all : e.passes ≤ passes → FilledTo nodes n 64 bury keep
   filled-all l =
-      let inside = f.inside in
-      let beyond = f.within.beyond in
-      let all = f.within.all in
-      let g : Filled nodes n done bury keep = f.filled in
+      let w : Within n e = f.within in
+      let beyond = w.beyond in
+      let done : min (passes * 16) (total e) ≡ total e = omega (arith, w.most, w.some, l) in
+      let all : total e ≤ 64 = omega (arith, w.few, w.most, w.some) in
+      let g : FilledTo nodes n (total e) bury keep = rw done at f.filled in
       record {
         buries = g.buries;
         keeps = g.keeps;
         answered = λ i x o m.
             ⊎_elim
             (λ h. g.answered i x h m)
-            (λ h.
-            rw (g.buried i h, g.kept i h, bit-none x m, le-ltb (i * 64 + x) (4 ^ n) (omega (arith, h, l, beyond))))
-            (below_or_not i done);
-        low = λ i o. ⊎_elim (λ h. g.low i h) (λ h. rw (g.buried i h) (omega arith)) (below_or_not i done);
-        high = λ i o. ⊎_elim (λ h. g.high i h) (λ h. rw (g.kept i h) (omega arith)) (below_or_not i done);
-        buried = λ i o. g.buried i (omega (arith, o, inside, all));
-        kept = λ i o. g.kept i (omega (arith, o, inside, all));
+            (λ h. rw (g.buried i h, g.kept i h, bit-none x m, le-ltb (i * 64 + x) (4 ^ n) (omega (arith, h, beyond))))
+            (below_or_not i (total e));
+        low = λ i o. ⊎_elim (λ h. g.low i h) (λ h. rw (g.buried i h) (omega arith)) (below_or_not i (total e));
+        high = λ i o. ⊎_elim (λ h. g.high i h) (λ h. rw (g.kept i h) (omega arith)) (below_or_not i (total e));
+        buried = λ i o. g.buried i (omega (arith, o, all));
+        kept = λ i o. g.kept i (omega (arith, o, all));
       }
 
-  pub filling_all : {r : Refusal} → 1 ≤ n → n ≤ 6 → e.total ≤ done → r ≡ none → Answered nodes n bury keep r
-  filling_all some most l z =
-      let inside = f.inside in
-      let beyond = f.within.beyond in
-      record {
-        told = λ x. absurd (x (ap (λ (q : Refusal). q.number) z));
-        fine = λ y. rw (silent_heights nodes n some most) (f.fine (omega (arith, l, beyond, power_some n)));
-        clear = λ y. z;
-        whole = λ y. filled-all l;
-      }
+  pub filling_all : 1 ≤ n → n ≤ 6 → e.passes ≤ passes → record { refusal = none; bury = bury; keep = keep } ≡ planes_of nodes n
+  unfolding planes_of
+  filling_all some most l =
+      let w : Within n e = f.within in
+      let a = filled-all l in
+      let z : (evaluate_of nodes (replicate n 0)).refusal ≡ none = silent_heights nodes n some most ∙ f.fine (omega (arith, w.some, l)) in
+      rw (z, bury-same nodes n a, keep_same nodes n a)

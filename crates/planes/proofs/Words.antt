@@ -1,24 +1,20 @@
--- The words that are filled are those of the meaning, and so are the ways out of `fill`.
+-- The words that are filled are those of the meaning.
 use Prim.Native.Nat.{ℕ, ◌+◌, ◌*◌, ◌/◌, ◌%◌, ◌<◌}
 use mathlib.Core.Path.{◌≡◌, sym, ◌∙◌}
 use mathlib.Core.List.{List}
-use lib.ListN.{length, get_or, replicate}
+use lib.ListN.{length, get_or}
 use lib.Seq.{ext_get_or}
-use borrow.Author.Tests.{eq-eqb, ne_eqb}
 use native.Mathlib.Nat.{zero-add}
 use native.Mathlib.Omega.{arith}
 use Rattle.words.specs.Meaning.{bit, words_from}
 use Rattle.words.proofs.Bits.{bit-small}
 use Rattle.words.proofs.Packed.{packed-same, packed_bits, length-words_from, words_from_at}
-use Rattle.refusals.specs.declared.Refusal.{Refusal}
 use Rattle.answers.specs.Meaning.{number}
 use Rattle.answers.specs.declared.Answer.{Answer}
 use Rattle.answers.proofs.Claims.{from_number_lem}
-use Rattle.nodes.specs.Meaning.{evaluate_of}
 use Rattle.lanes.specs.Meaning.{pair}
-use Rattle.planes.specs.declared.Planes.{Planes}
-use Rattle.planes.specs.Meaning.{bury_at, keep_at, planes_of}
-use Rattle.planes.specs.Inside.{Filled, Answered}
+use Rattle.planes.specs.Meaning.{bury_at, keep_at}
+use Rattle.planes.specs.Inside.{FilledTo}
 
 -- the two bits of an answer's number
 pair-number : (x b k : ℕ) → number (pair x b k) ≡ bit x b + 2 * bit x k
@@ -53,30 +49,13 @@ words_same f words size small bits =
     ∙ sym (words_from_at f 64 0 k m ∙ (rw (zero-add k))))
 
 module _ (nodes : List ℕ) (n : ℕ) where
-  module _ {bury keep : List ℕ} (f : Filled nodes n 64 bury keep) where
-    bury-same : bury ≡ words_from (bury_at nodes n) 64 0
+  module _ {bury keep : List ℕ} (f : FilledTo nodes n 64 bury keep) where
+    pub bury-same : bury ≡ words_from (bury_at nodes n) 64 0
     bury-same =
         words_same (bury_at nodes n) bury f.buries f.low
         (λ k x l m. low_bit x (get_or bury k 0) (get_or keep k 0) (f.answered k x l m))
 
-    keep_same : keep ≡ words_from (keep_at nodes n) 64 0
+    pub keep_same : keep ≡ words_from (keep_at nodes n) 64 0
     keep_same =
         words_same (keep_at nodes n) keep f.keeps f.high
         (λ k x l m. high_bit x (get_or bury k 0) (get_or keep k 0) (f.answered k x l m))
-
-  -- the ways out of `fill`
-  module _ {bury keep : List ℕ} {r : Refusal} (a : Answered nodes n bury keep r) where
-    pub fill-refused :
-        {p : Planes} → p ≡ record { refusal = r; bury = replicate 64 0; keep = replicate 64 0 } → (r.number ≡ 0 → ⊥) → p ≡ planes_of nodes n
-    unfolding planes_of
-    fill-refused g x = g ∙ (rw (← a.told x, ne_eqb r.number 0 x))
-
-    pub fill-whole : r.number ≡ 0 → record { refusal = r; bury = bury; keep = keep } ≡ planes_of nodes n
-    unfolding planes_of
-    fill-whole z =
-        rw (
-          eq-eqb (evaluate_of nodes (replicate n 0)).refusal.number 0 (a.fine z),
-          a.clear z,
-          ← bury-same (a.whole z),
-          ← keep_same (a.whole z),
-        )

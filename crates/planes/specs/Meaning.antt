@@ -1,7 +1,8 @@
 -- The answers of a node array at all situations of n columns, 64 to a word.
-use Rattle.std.specs.Prelude.{ℕ, ◌+◌, ◌*◌, ◌/◌, ◌%◌, ◌^◌, cond, List, [], ltb, get_or, replicate}
+use Rattle.std.specs.Prelude.{ℕ, ◌+◌, ◌*◌, ◌/◌, ◌%◌, ◌^◌, cond, List, [], ltb, get_or, replicate, Result}
 use Rattle.words.specs.Meaning.{bit, words_from}
-use Rattle.refusals.specs.Meaning.{none, after}
+use Rattle.refusals.specs.Meaning.{Numbers, none, after, replied}
+use Rattle.refusals.specs.declared.Refusal.{Refusal}
 use Rattle.answers.specs.Meaning.{number, from_number}
 use Rattle.answers.specs.declared.Answer.{Answer}
 use Rattle.answers.specs.declared.Answer.TheVariants.{Silent}
@@ -24,9 +25,22 @@ bury_at nodes n w = bit 0 (number (answer_at nodes n w))
 abbrev pub keep_at : List ℕ → ℕ → ℕ → ℕ
 keep_at nodes n w = bit 1 (number (answer_at nodes n w))
 
+-- What is replied: the answers in words, or a refusal. The words of a refusal are 0.
+pub record Filled : Type 0 where
+  pub refusal : Numbers
+  pub bury : List ℕ
+  pub keep : List ℕ
+
+abbrev pub refuse_filled : Numbers → Filled
+refuse_filled r = record { refusal = r; bury = replicate 64 0; keep = replicate 64 0 }
+
+-- The same of a result.
+abbrev pub filled : Result Planes Refusal → Filled
+filled = replied (λ (p : Planes). record { refusal = none; bury = p.bury; keep = p.keep }) refuse_filled
+
 -- The answers at all situations, in words. No refusal depends on the situation's answers: the array is refused as at the
 -- situation that is silent everywhere, and the words of a refusal are 0.
-unfoldable pub planes_of : List ℕ → ℕ → Planes
+unfoldable pub planes_of : List ℕ → ℕ → Filled
 planes_of nodes n =
-    after (evaluate_of nodes (replicate n 0)).refusal (λ r. record { refusal = r; bury = replicate 64 0; keep = replicate 64 0 })
+    after (evaluate_of nodes (replicate n 0)).refusal refuse_filled
     (record { refusal = none; bury = words_from (bury_at nodes n) 64 0; keep = words_from (keep_at nodes n) 64 0 })

@@ -3,7 +3,6 @@ use Prim.Native.Nat.{ℕ}
 use mathlib.Core.Path.{◌≡◌, refl, sym, ap}
 use mathlib.Core.Bool.{not as opposite}
 use mathlib.Core.List.{List, map}
-use Rattle.refusals.specs.declared.Refusal.{Refusal}
 use Rattle.answers.specs.declared.Answer.{Answer}
 use Rattle.answers.specs.declared.operators.One.{One}
 use Rattle.answers.specs.declared.operators.Two.{Two}
@@ -15,19 +14,8 @@ use Rattle.sets.proofs.Handed.{map_handed, pairs_handed}
 use Rattle.truths.specs.Meaning.{truth_number, truth_set, truths_in, combine, answered, whenever}
 use Rattle.truths.proofs.Truths.{not_handed, joint_handed, when_handed}
 use Rattle.trees.specs.Meaning.{Policy, Test, one, two, when, not, joint, answers, may_say, may_hold, Read, made, refused, and_then}
-use Rattle.leaves.specs.declared.Held.{Held}
 use Rattle.leaves.specs.Meaning.{held}
-use Rattle.policies.specs.declared.Told.{Told}
 use Rattle.policies.specs.Meaning.{told}
-
--- What is done with a set that was told, and with one that was held; a refusal stays.
-abbrev pub on_told : {A : Type 0} → (Refusal → A) → (ℕ → ℕ → A) → Told → A
-on_told stop onward (Told.May set next) = onward set next
-on_told stop onward (Told.Refused r) = stop r
-
-abbrev pub on_held : {A : Type 0} → (Refusal → A) → (ℕ → ℕ → A) → Held → A
-on_held stop onward (Held.May set next) = onward set next
-on_held stop onward (Held.Refused r) = stop r
 
 -- The operators on sets handed on as numbers.
 abbrev pub one_on : One → ℕ → ℕ
@@ -48,59 +36,55 @@ joint_on j t u = truth_set (pairs (combine j) (truths_in t) (truths_in u))
 abbrev pub answers_on : Answer → ℕ → ℕ
 answers_on a p = truth_set (map (answered a) (answers_in p))
 
+-- An operator on one operand that was read, and on two that are read one after the other.
+abbrev pub on_one : {A B : Type 0} → (A → B) → Read A → Read B
+on_one f x = and_then x (λ a end. made (f a) end)
+
+abbrev pub on_two : {A B C : Type 0} → (A → B → C) → Read A → (ℕ → Read B) → Read C
+on_two f x y = and_then x (λ a next. and_then (y next) (λ b end. made (f a b) end))
+
+-- Where each tree stands for a number, an operator on the trees is one on their numbers.
+one_of : {A B : Type 0} (a : A → ℕ) (b : B → ℕ) (f : A → B) (g : ℕ → ℕ) → ((p : A) → g (a p) ≡ b (f p)) →
+    (x : Read A) → on_one b (on_one f x) ≡ on_one g (on_one a x)
+one_of a b f g same (made p end) = ap (λ (n : ℕ). made n end) (sym (same p))
+one_of a b f g same (refused r) = refl
+
+two_of : {A B C : Type 0} (a : A → ℕ) (b : B → ℕ) (c : C → ℕ) (f : A → B → C) (g : ℕ → ℕ → ℕ) →
+    ((p : A) (q : B) → g (a p) (b q) ≡ c (f p q)) →
+    (x : Read A) (y : ℕ → Read B) → on_one c (on_two f x y) ≡ on_two g (on_one a x) (λ i. on_one b (y i))
+two_of a b c f g same (made p next) y = one_of b c (f p) (g (a p)) (same p) (y next)
+two_of a b c f g same (refused r) y = refl
+
 module _ (fs : List Fact) where
-  pub told_one_of : (operator : One) (x : Read Policy) →
-      told fs (and_then x (λ p end. made (one operator p) end)) ≡
-      on_told Told.Refused (λ p end. Told.May (one_on operator p) end) (told fs x)
-  unfolding may_say told held
-  told_one_of operator (made p end) = ap (λ s. Told.May s end) (sym (map_handed number (apply_one operator) (may_say fs p)))
-  told_one_of operator (refused r) = refl
+  abbrev say : Policy → ℕ
+  say p = answer_set (may_say fs p)
+
+  abbrev hold : Test → ℕ
+  hold t = truth_set (may_hold fs t)
+
+  pub told_one_of : (operator : One) (x : Read Policy) → told fs (on_one (one operator) x) ≡ on_one (one_on operator) (told fs x)
+  unfolding may_say told
+  told_one_of operator = one_of say say (one operator) (one_on operator) (λ p. map_handed number (apply_one operator) (may_say fs p))
 
   pub told_two_of : (operator : Two) (x : Read Policy) (y : ℕ → Read Policy) →
-      told fs (and_then x (λ p next. and_then (y next) (λ q end. made (two operator p q) end))) ≡
-      on_told Told.Refused (λ p next. on_told Told.Refused (λ q end. Told.May (two_on operator p q) end) (told fs (y next))) (told fs x)
-  unfolding may_say told held
-  told_two_of operator (made p next) y = go (y next)
-    where
-      go : (x : Read Policy) → told fs (and_then x (λ q end. made (two operator p q) end)) ≡
-          on_told Told.Refused (λ q end. Told.May (two_on operator (answer_set (may_say fs p)) q) end) (told fs x)
-      go (made q end) = ap (λ s. Told.May s end) (sym (pairs_handed (apply_two operator) (may_say fs p) (may_say fs q)))
-      go (refused r) = refl
-  told_two_of operator (refused r) y = refl
+      told fs (on_two (two operator) x y) ≡ on_two (two_on operator) (told fs x) (λ i. told fs (y i))
+  unfolding may_say told
+  told_two_of operator =
+      two_of say say say (two operator) (two_on operator) (λ p q. pairs_handed (apply_two operator) (may_say fs p) (may_say fs q))
 
-  pub told_when_of : (x : Read Test) (y : ℕ → Read Policy) →
-      told fs (and_then x (λ t next. and_then (y next) (λ p end. made (when t p) end))) ≡
-      on_held Told.Refused (λ t next. on_told Told.Refused (λ p end. Told.May (when_on t p) end) (told fs (y next))) (held fs x)
+  pub told_when_of : (x : Read Test) (y : ℕ → Read Policy) → told fs (on_two when x y) ≡ on_two when_on (held fs x) (λ i. told fs (y i))
   unfolding may_say told held
-  told_when_of (made t next) y = go (y next)
-    where
-      go : (x : Read Policy) → told fs (and_then x (λ p end. made (when t p) end)) ≡
-          on_told Told.Refused (λ p end. Told.May (when_on (truth_set (may_hold fs t)) p) end) (told fs x)
-      go (made p end) = ap (λ s. Told.May s end) (sym (when_handed (may_hold fs t) (may_say fs p)))
-      go (refused r) = refl
-  told_when_of (refused r) y = refl
+  told_when_of = two_of hold say say when when_on (λ t p. when_handed (may_hold fs t) (may_say fs p))
 
-  pub held_not_of : (x : Read Test) →
-      held fs (and_then x (λ t end. made (not t) end)) ≡ on_held Held.Refused (λ t end. Held.May (not_on t) end) (held fs x)
-  unfolding may_say told held
-  held_not_of (made t end) = ap (λ s. Held.May s end) (sym (not_handed opposite (may_hold fs t)))
-  held_not_of (refused r) = refl
+  pub held_not_of : (x : Read Test) → held fs (on_one not x) ≡ on_one not_on (held fs x)
+  unfolding may_say held
+  held_not_of = one_of hold hold not not_on (λ t. not_handed opposite (may_hold fs t))
 
   pub held_joint_of : (j : Joint) (x : Read Test) (y : ℕ → Read Test) →
-      held fs (and_then x (λ t next. and_then (y next) (λ u end. made (joint j t u) end))) ≡
-      on_held Held.Refused (λ t next. on_held Held.Refused (λ u end. Held.May (joint_on j t u) end) (held fs (y next))) (held fs x)
-  unfolding may_say told held
-  held_joint_of j (made t next) y = go (y next)
-    where
-      go : (x : Read Test) → held fs (and_then x (λ u end. made (joint j t u) end)) ≡
-          on_held Held.Refused (λ u end. Held.May (joint_on j (truth_set (may_hold fs t)) u) end) (held fs x)
-      go (made u end) = ap (λ s. Held.May s end) (sym (joint_handed (combine j) (may_hold fs t) (may_hold fs u)))
-      go (refused r) = refl
-  held_joint_of j (refused r) y = refl
+      held fs (on_two (joint j) x y) ≡ on_two (joint_on j) (held fs x) (λ i. held fs (y i))
+  unfolding may_say held
+  held_joint_of j = two_of hold hold hold (joint j) (joint_on j) (λ t u. joint_handed (combine j) (may_hold fs t) (may_hold fs u))
 
-  pub held_answers_of : (wanted : Answer) (x : Read Policy) →
-      held fs (and_then x (λ p end. made (answers wanted p) end)) ≡
-      on_told Held.Refused (λ p end. Held.May (answers_on wanted p) end) (told fs x)
+  pub held_answers_of : (wanted : Answer) (x : Read Policy) → held fs (on_one (answers wanted) x) ≡ on_one (answers_on wanted) (told fs x)
   unfolding may_say told held
-  held_answers_of wanted (made p end) = ap (λ s. Held.May s end) (sym (map_handed truth_number (answered wanted) (may_say fs p)))
-  held_answers_of wanted (refused r) = refl
+  held_answers_of wanted = one_of say hold (answers wanted) (answers_on wanted) (λ p. map_handed truth_number (answered wanted) (may_say fs p))

@@ -11,87 +11,76 @@
 
 ghost use Rattle.std.specs.Prelude.{◌≡◌};
 ghost use Rattle.notices.specs.Meaning.{facts_in};
-ghost use Rattle.trees.specs.Meaning.{policy_at, test_at};
+ghost use Rattle.trees.specs.Meaning.{policy_at, test_at, reading};
 ghost use Rattle.leaves.specs.Meaning.{held};
 ghost use Rattle.policies.specs.Meaning.{told};
 
+use answers::Answer;
 use codes::{PolicyKind, TestKind};
-use leaves::Held;
-use refusals::{CODE, CUT, NEST, Refusal, refused};
-
-// What a policy may say with the offset after it, or why it is refused.
-#[derive(Clone, Copy)]
-pub enum Told {
-    May(u8, usize),
-    Refused(Refusal),
-}
+use leaves::Hearing;
+use refusals::{Kind, Refusal};
+use sets::Set;
 
 // The policy at an offset of the voice, with so many levels left.
 #[cycle(policy_test)]
-pub fn policy(voice: &[u8], notice: &[u8], at: usize, left: usize) -> Told
-    ensures { result ≡ told (facts_in 32 notice.now) (policy_at left voice.now at) }
+#[tactic(auto, using(crate::proofs::Levels::policy_laws))]
+pub fn policy(hearing: &Hearing, at: usize, left: usize) -> Result<(Set<Answer>, usize), Refusal>
+    ensures { reading result ≡ told (facts_in 32 hearing.now.notice.now) (policy_at left hearing.now.voice.now at) }
 {
     if left == 0 {
-        return Told::Refused(refused(NEST, at));
+        return Err(Refusal::at(Kind::Nest, at));
     }
-    if voice.len() <= at {
-        return Told::Refused(refused(CUT, at));
+    if hearing.voice.len() <= at {
+        return Err(Refusal::at(Kind::Cut, at));
     }
-    let kind = codes::policy_kind(voice[at]);
-    match kind {
-        PolicyKind::Constant(a) => Told::May(sets::only(a), at + 1),
-        PolicyKind::One(operator) => match policy(voice, notice, at + 1, left - 1) {
-            Told::May(p, end) => Told::May(sets::apply_one(operator, p), end),
-            Told::Refused(refusal) => Told::Refused(refusal),
-        },
-        PolicyKind::Two(operator) => match policy(voice, notice, at + 1, left - 1) {
-            Told::May(p, next) => match policy(voice, notice, next, left - 1) {
-                Told::May(q, end) => Told::May(sets::apply_two(operator, p, q), end),
-                Told::Refused(refusal) => Told::Refused(refusal),
-            },
-            Told::Refused(refusal) => Told::Refused(refusal),
-        },
-        PolicyKind::When => match test(voice, notice, at + 1, left - 1) {
-            Held::May(t, next) => match policy(voice, notice, next, left - 1) {
-                Told::May(p, end) => Told::May(truths::when_held(t, p), end),
-                Told::Refused(refusal) => Told::Refused(refusal),
-            },
-            Held::Refused(refusal) => Told::Refused(refusal),
-        },
-        PolicyKind::Foreign => Told::Refused(refused(CODE, at)),
+    match PolicyKind::from(hearing.voice[at]) {
+        PolicyKind::Constant(a) => Ok((Set::only(a), at + 1)),
+        PolicyKind::One(operator) => {
+            let (p, end) = policy(hearing, at + 1, left - 1)?;
+            Ok((sets::apply_one(operator, p), end))
+        }
+        PolicyKind::Two(operator) => {
+            let (p, next) = policy(hearing, at + 1, left - 1)?;
+            let (q, end) = policy(hearing, next, left - 1)?;
+            Ok((sets::apply_two(operator, p, q), end))
+        }
+        PolicyKind::When => {
+            let (t, next) = test(hearing, at + 1, left - 1)?;
+            let (p, end) = policy(hearing, next, left - 1)?;
+            Ok((truths::when_held(t, p), end))
+        }
+        PolicyKind::Foreign => Err(Refusal::at(Kind::Code, at)),
     }
 }
 
 // The test at an offset of the voice, with so many levels left.
 #[cycle(policy_test)]
-fn test(voice: &[u8], notice: &[u8], at: usize, left: usize) -> Held
-    ensures { result ≡ held (facts_in 32 notice.now) (test_at left voice.now at) }
+#[tactic(auto, using(crate::proofs::Levels::test_laws))]
+fn test(hearing: &Hearing, at: usize, left: usize) -> Result<(Set<bool>, usize), Refusal>
+    ensures { reading result ≡ held (facts_in 32 hearing.now.notice.now) (test_at left hearing.now.voice.now at) }
 {
     if left == 0 {
-        return Held::Refused(refused(NEST, at));
+        return Err(Refusal::at(Kind::Nest, at));
     }
-    if voice.len() <= at {
-        return Held::Refused(refused(CUT, at));
+    if hearing.voice.len() <= at {
+        return Err(Refusal::at(Kind::Cut, at));
     }
-    let kind = codes::test_kind(voice[at]);
-    match kind {
-        TestKind::Not => match test(voice, notice, at + 1, left - 1) {
-            Held::May(t, end) => Held::May(truths::negated(t), end),
-            Held::Refused(refusal) => Held::Refused(refusal),
-        },
-        TestKind::Joint(joint) => match test(voice, notice, at + 1, left - 1) {
-            Held::May(t, next) => match test(voice, notice, next, left - 1) {
-                Held::May(u, end) => Held::May(truths::combine(joint, t, u), end),
-                Held::Refused(refusal) => Held::Refused(refusal),
-            },
-            Held::Refused(refusal) => Held::Refused(refusal),
-        },
-        TestKind::Comparison(comparison) => leaves::compared_at(voice, notice, at, comparison),
-        TestKind::Present => leaves::present_at(voice, notice, at),
-        TestKind::Answers(wanted) => match policy(voice, notice, at + 1, left - 1) {
-            Told::May(p, end) => Held::May(truths::is_answer(wanted, p), end),
-            Told::Refused(refusal) => Held::Refused(refusal),
-        },
-        TestKind::Foreign => Held::Refused(refused(CODE, at)),
+    match TestKind::from(hearing.voice[at]) {
+        TestKind::Not => {
+            let (t, end) = test(hearing, at + 1, left - 1)?;
+            Ok((truths::negated(t), end))
+        }
+        TestKind::Joint(joint) => {
+            let (t, next) = test(hearing, at + 1, left - 1)?;
+            let (u, end) = test(hearing, next, left - 1)?;
+            Ok((truths::combine(joint, t, u), end))
+        }
+        TestKind::Comparison(comparison) => hearing.compared_at(at, comparison),
+        TestKind::Present => hearing.present_at(at),
+        TestKind::Answers(wanted) => {
+            let (p, end) = policy(hearing, at + 1, left - 1)?;
+            Ok((truths::is_answer(wanted, p), end))
+        }
+        TestKind::Foreign => Err(Refusal::at(Kind::Code, at)),
     }
 }

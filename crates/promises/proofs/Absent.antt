@@ -13,7 +13,7 @@ use Rattle.answers.specs.Meaning.{number, contained, succeed}
 use Rattle.answers.proofs.Every.{each}
 use Rattle.notices.specs.declared.Comparison.{Comparison}
 use Rattle.notices.specs.declared.Comparison.TheVariants.{Below}
-use Rattle.notices.specs.declared.Seen.TheVariants.{Absent}
+use Rattle.std.specs.Prelude.{None}
 use Rattle.notices.specs.Meaning as notice
 use Rattle.codes.specs.Meaning.{policy_kind, test_kind}
 use Rattle.sets.specs.Meaning.{set_of, has, answer_set, meet_of}
@@ -21,9 +21,8 @@ use Rattle.sets.proofs.Numbers.{among_has, has_among}
 use Rattle.sets.proofs.Meets.{meet_of-contained, meet_of-greatest}
 use Rattle.trees.specs.Meaning.{Policy, constant, two, when, not, comparison, present, says, Choice, under, always_false, may_say, may_hold}
 use Rattle.trees.specs.Meaning.{PolicyCertain, Gains, PolicyUnasked, comparison_at, policy_at, PolicyBytes}
-use Rattle.voices.specs.declared.Heard.{Heard}
 use Rattle.voices.specs.Meaning as voice
-use Rattle.voices.specs.Meaning.{hear_of, speak_of, speak_under}
+use Rattle.voices.specs.Meaning.{Heard, hear_of, speak_of, speak_under}
 use Rattle.choosing.proofs.Choices.{says_among}
 use Rattle.choosing.proofs.Certain.{may_say-certain, certain-says}
 use Rattle.choosing.proofs.Gains.{may_say_gains, gains_one}
@@ -107,17 +106,17 @@ module _ (fs gs : List notice.Fact) (p : Policy) (v : List ℕ) (h : notice.Lawf
       (meet_of-greatest (meet_of (may_say fs p)) (may_say gs p) (λ a m. meet_of-contained a (may_say fs p) (may_say_gains fs gs g p u a m)))
 
 -- One fact put in, of which the notice said nothing, is such a gain.
-pub one_fact_gained : (fs rest : List notice.Fact) (f : notice.Fact) → notice.seen (fs ++ rest) f.number ≡ Absent →
+pub one_fact_gained : (fs rest : List notice.Fact) (f : notice.Fact) → notice.seen (fs ++ rest) f.number ≡ None →
     Gains (fs ++ rest) (fs ++ f ∷ rest)
 one_fact_gained = gains_one
 
 -- The readings. A comparison on an absent fact is both truths whatever it compares, so `below 0` is; a test for presence is certain.
-pub absent_open : (fs : List notice.Fact) (c : Comparison) (fact value : ℕ) → notice.seen fs fact ≡ Absent →
+pub absent_open : (fs : List notice.Fact) (c : Comparison) (fact value : ℕ) → notice.seen fs fact ≡ None →
     may_hold fs (comparison c fact value) ≡ false ∷ true ∷ []
 unfolding may_say
 absent_open fs c fact value e = rw e
 
-pub below_zero_open : (fs : List notice.Fact) (fact : ℕ) → notice.seen fs fact ≡ Absent →
+pub below_zero_open : (fs : List notice.Fact) (fact : ℕ) → notice.seen fs fact ≡ None →
     may_hold fs (comparison Below fact 0) ≡ false ∷ true ∷ []
 below_zero_open fs fact = absent_open fs Below fact 0
 
@@ -127,7 +126,7 @@ present-certain fs fact = refl
 
 -- Each occurrence of a comparison is chosen by itself: `keep when c` joined with `keep when not c`, the same absent comparison twice,
 -- is silent or keep, and its column silent.
-pub chosen_apart : (fs : List notice.Fact) (c : Comparison) (fact value : ℕ) → notice.seen fs fact ≡ Absent →
+pub chosen_apart : (fs : List notice.Fact) (c : Comparison) (fact value : ℕ) → notice.seen fs fact ≡ None →
     let p = two Join (when (comparison c fact value) (constant Keep)) (when (not (comparison c fact value)) (constant Keep)) in
     (answer_set (may_say fs p) ≡ answer_set (Silent ∷ Keep ∷ [])) × (meet_of (may_say fs p) ≡ Silent)
 unfolding may_say set_of

@@ -8,7 +8,7 @@ use mathlib.Core.List.{List, [], ◌++◌}
 use native.Mathlib.Omega.{arith}
 use lib.ListN.{length, take, drop, replicate}
 use Rattle.refusals.specs.Meaning.{none, refused, SHORT, TAG, LEN, WEEK}
-use Rattle.answers.specs.declared.Reply.{Reply}
+use Rattle.answers.specs.Meaning.{Reply}
 use Rattle.fields.specs.Meaning.{Bytes, tag}
 use Rattle.batches.specs.Meaning.{read_rest, read_batch, bytes_of, Lawful, MOST}
 use Rattle.counts.specs.Meaning.{count, numbers_from, counts_of, plus, LARGEST}

@@ -9,31 +9,23 @@ use lib.Dec.{ltb, eqb}
 use lib.ListN.{length, replicate}
 use mathlib.Core.Logic.{◌↔◌, ◌⊎◌}
 use borrow.Author.Tests.{eq-eqb, lt-ltb}
-use Rattle.refusals.specs.Meaning.{none, refused, ROWS, ROOM, SITUATION, OVERLAP, after}
-use Rattle.answers.specs.declared.Reply.{Reply}
+use Rattle.refusals.specs.Meaning.{Numbers, none, refused, ROWS, ROOM, SITUATION, OVERLAP, after}
 use Rattle.answers.specs.declared.operators.One.{One}
 use Rattle.answers.specs.declared.operators.Two.{Two}
-use Rattle.answers.specs.Meaning.{from_number, contained, replace, apply_one, apply_two, succeed}
-use Rattle.operands.specs.declared.Related.{Related}
-use Rattle.operands.specs.Meaning.{operand_fault, operands_of, one_of, two_of, replace_of, contained_of}
+use Rattle.answers.specs.Meaning.{Reply, from_number, contained, replace, apply_one, apply_two, succeed}
+use Rattle.operands.specs.Meaning.{Related, operand_fault, operands_of, one_of, two_of, replace_of, contained_of}
 use Rattle.situations.specs.declared.Situation.{Situation}
-use Rattle.situations.specs.declared.Merged.{Merged}
-use Rattle.situations.specs.Meaning.{situation_at, fault_of, merge_of, fault}
-use Rattle.notices.specs.declared.Noticed.{Noticed}
-use Rattle.notices.specs.Meaning.{notice_of}
-use Rattle.voices.specs.declared.Heard.{Heard}
-use Rattle.voices.specs.Meaning.{unheard, hear_of, speak_of}
+use Rattle.situations.specs.Meaning.{Merged, situation_at, fault_of, merge_of, fault}
+use Rattle.notices.specs.Meaning.{Noticed, notice_of}
+use Rattle.voices.specs.Meaning.{Heard, unheard, hear_of, speak_of}
 use Rattle.batches.specs.Meaning.{MOST}
 use Rattle.weeks.specs.Meaning.{week_of}
-use Rattle.tables.specs.declared.TableRead.{TableRead}
-use Rattle.tables.specs.Meaning.{table_of, refuse_table, read_of, Table, WellFormed, Consistent, table_bytes, FirstDisagreement}
+use Rattle.tables.specs.Meaning.{TableRead, table_of, refuse_table, read_of, Table, WellFormed, Consistent, table_bytes, FirstDisagreement}
 use Rattle.nodes.specs.Meaning.{evaluate_of, full, heights}
-use Rattle.compiler.specs.declared.Compiled.{Compiled}
 use Rattle.formula.specs.Meaning.{table_size}
-use Rattle.compiler.specs.Meaning.{refuse_compiled, compile_of, written_of}
+use Rattle.compiler.specs.Meaning.{Compiled, refuse_compiled, compile_of, written_of}
 use Rattle.steps.specs.Meaning.{first_situation}
-use Rattle.growth.specs.declared.Growth.{Growth}
-use Rattle.growth.specs.Meaning.{answer_at, without, shown, growth_of}
+use Rattle.growth.specs.Meaning.{Growth, answer_at, without, shown, growth_of}
 use Rattle.replying.proofs.ReplyLaws.{either, numbers-refused, replied_success, replied_numbers, replied_refuse, replied_after}
 use Rattle.replying.proofs.TableNumbers.{read_of_read, short-room}
 use Rattle.replying.proofs.NodeNumbers.{fault_of-numbers, answers-succeed, answers-after, evaluate_of-answers, operand-numbers, columns-outside, growth-outside}
@@ -45,11 +37,9 @@ use Rattle.accepting.proofs.FirstDisagreements.{first_inconsistent}
 use Rattle.accepting.proofs.TableEncoding.{write_table, read_write, read_formed, read_consistent, write_overlap, overlap_write, overlap_formed, overlap_named}
 use Rattle.compiler.proofs.CompileReturns.{written-refused}
 use Rattle.running.proofs.Heights.{evaluate-heights, evaluate-alike}
-use Rattle.refusals.specs.declared.Refusal.{Refusal}
 use Rattle.growing.proofs.Verdicts as verdicts
 use Rattle.situations.proofs.Replies.{merged-refused}
-use Rattle.listing.specs.declared.Written.{Written}
-use Rattle.listing.specs.Meaning.{refuse_written}
+use Rattle.listing.specs.Meaning.{Written, refuse_written}
 use Rattle.untable.specs.Meaning.{untable_of}
 use Rattle.recovering.specs.Meaning.{answered}
 use Rattle.recovering.proofs.Replies.{untable_either}
@@ -225,7 +215,7 @@ pub growth_situation_exactly :
     (nodes : List ℕ) (n : ℕ) → ((growth_of nodes n).refusal.number ≡ SITUATION) ↔ ((n < 1) ⊎ (6 < n))
 growth_situation_exactly nodes n = (
   columns-outside nodes n,
-  λ o. ap (λ (r : Refusal). r.number) (growth-outside nodes n o),
+  λ o. ap (λ (r : Numbers). r.number) (growth-outside nodes n o),
 )
 
 pub growth_situation_place :

@@ -10,8 +10,7 @@ use native.Mathlib.Omega.{arith}
 use Rattle.answers.specs.declared.Answer.{Answer}
 use Rattle.answers.specs.declared.Answer.TheVariants.{Silent}
 use Rattle.rows.specs.Meaning.{Cell, row, matches, row_bytes, row_of, Shared, overlap}
-use Rattle.tables.specs.declared.TableRead.{TableRead}
-use Rattle.tables.specs.Meaning.{Table, WellFormed, Consistent, says, table_bytes, accept_table, rows_part, table_of, read_of}
+use Rattle.tables.specs.Meaning.{TableRead, Table, WellFormed, Consistent, says, table_bytes, accept_table, rows_part, table_of, read_of}
 use Rattle.accepting.proofs.SharedSituations.{overlap-matched, matched-overlap}
 use Rattle.accepting.proofs.Saying.{says_matching, says-default}
 use Rattle.accepting.proofs.TableEncoding.{write_read, write_table, write_row, table_bytes-most, read_write, read_formed, read_consistent}

@@ -7,7 +7,7 @@ use mathlib.Core.Logic.{◌↔◌, ◌⊎◌}
 use mathlib.Core.List.{List, []}
 use lib.Dec.{T}
 use lib.ListN.{length, get_or, replicate, length-replicate}
-use Rattle.answers.specs.Meaning.{contained}
+use Rattle.answers.specs.Meaning.{Reply, contained}
 use Rattle.answers.specs.declared.Answer.{Answer}
 use Rattle.answers.specs.declared.Answer.TheVariants.{Bury, Keep, Clash}
 use Rattle.situations.specs.Meaning.{merge, raises}
@@ -17,7 +17,6 @@ use Rattle.growing.specs.Meaning.{alone, Grows, Shows, Long, merged, strictly}
 use Rattle.growing.proofs.Mergers.{failing_breaks, raises_cover}
 use Rattle.growing.proofs.Verdicts as verdicts
 use Rattle.growing.proofs.Histories as histories
-use Rattle.answers.specs.declared.Reply.{Reply}
 use Rattle.situations.proofs.Silent.{silent_sound}
 use Rattle.tables.specs.Meaning.{says, table_of}
 use Rattle.accepting.proofs.TableEncoding.{read_formed, read_consistent}

@@ -14,17 +14,14 @@ use Rattle.answers.specs.Meaning.{number}
 use Rattle.answers.specs.declared.Answer.{Answer}
 use Rattle.answers.specs.declared.Answer.TheVariants.{Silent}
 use Rattle.situations.specs.declared.Situation.{Situation}
-use Rattle.tables.specs.Meaning.{table_of, says, read_of}
-use Rattle.tables.specs.declared.TableRead.{TableRead}
+use Rattle.tables.specs.Meaning.{TableRead, table_of, says, read_of}
 use Rattle.tables.proofs.Accepted.{read_accepted}
 use Rattle.accepting.proofs.TableEncoding.{read_formed}
 use Rattle.formula.specs.Meaning.{table_size}
 use Rattle.formula.proofs.MostNodes.{narrow-most}
-use Rattle.compiler.specs.Meaning.{compile_of}
-use Rattle.compiler.specs.declared.Compiled.{Compiled}
+use Rattle.compiler.specs.Meaning.{Compiled, compile_of}
 use Rattle.selection.proofs.Replies.{accepted_read, accepted_reply_lem, fits_accepted}
-use Rattle.growth.specs.declared.Growth.{Growth}
-use Rattle.growth.specs.Meaning.{growth_of}
+use Rattle.growth.specs.Meaning.{Growth, growth_of}
 use Rattle.growing.specs.Meaning.{Grows, FirstFailing}
 use Rattle.text.specs.Meaning.{refusal_line}
 use Rattle.lines.specs.Meaning.{growth_yes, growth_no, count_lines, answers_text, raised_text, growth_line}

@@ -2,8 +2,10 @@
 -- `Post` is the contract itself, as the checker reads it off the source.
 use mathlib.Core.Path.{sym, ◌∙◌}
 use Rattle.promises.specs.Meaning.{Determined}
-use Rattle.refusals.proofs.none as refusals-none
-use Rattle.refusals.proofs.refused as refusals-refused
+use Rattle.promises.proofs.Apart.{answered-apart, related-apart, merged-apart}
+use Rattle.refusals.proofs.Apart.{checked-apart}
+use Rattle.refusals.proofs.U8FromKind.from as refusals-number
+use Rattle.refusals.proofs.Refusal.at as refusals-at
 use Rattle.fields.proofs.two as fields-two
 use Rattle.fields.proofs.four as fields-four
 use Rattle.fields.proofs.short_header as fields-short-header
@@ -11,8 +13,8 @@ use Rattle.fields.proofs.tag as fields-tag
 use Rattle.fields.proofs.size as fields-size
 use Rattle.fields.proofs.short_value as fields-short-value
 use Rattle.fields.proofs.first_above as fields-first-above
-use Rattle.answers.proofs.number as Answers-number
-use Rattle.answers.proofs.from_number as answers-from-number
+use Rattle.answers.proofs.U8FromAnswer.from as answers-number
+use Rattle.answers.proofs.AnswerFromU8.from as answers-from-number
 use Rattle.answers.proofs.contained as answers-contained
 use Rattle.answers.proofs.operators.negate as answers-negate
 use Rattle.answers.proofs.operators.turn as answers-turn
@@ -32,19 +34,19 @@ use Rattle.operands.proofs.one as operands-one
 use Rattle.operands.proofs.two as operands-two
 use Rattle.operands.proofs.replace as operands-replace
 use Rattle.operands.proofs.contained as operands-contained
-use Rattle.situations.proofs.fault as situations-fault
-use Rattle.situations.proofs.Situation.fault as situations-by-value-fault
+use Rattle.situations.proofs.check as situations-check
+use Rattle.situations.proofs.Situation.check as situations-by-value-check
 use Rattle.situations.proofs.Situation.merge as situations-merge
 use Rattle.base4.proofs.weight as base4-weight
 use Rattle.base4.proofs.digit as base4-digit
 use Rattle.base4.proofs.situation_at as base4-situation-at
 use Rattle.base4.proofs.index as base4-index
 
-pub refusals_none_determined : Determined refusals-none.Kinds.ps refusals-none.Kinds.r refusals-none.Reads.Post
-refusals_none_determined = record { result = λ κs a x y s t p q. p ∙ sym q }
+pub refusals_number_determined : Determined refusals-number.Kinds.ps refusals-number.Kinds.r refusals-number.Reads.Post
+refusals_number_determined = record { result = λ κs a x y s t p q. p ∙ sym q }
 
-pub refusals_refused_determined : Determined refusals-refused.Kinds.ps refusals-refused.Kinds.r refusals-refused.Reads.Post
-refusals_refused_determined = record { result = λ κs a x y s t p q. p ∙ sym q }
+pub refusals_at_determined : Determined refusals-at.Kinds.ps refusals-at.Kinds.r refusals-at.Reads.Post
+refusals_at_determined = record { result = λ κs a x y s t p q. p ∙ sym q }
 
 pub fields_two_determined : Determined fields-two.Kinds.ps fields-two.Kinds.r fields-two.Reads.Post
 fields_two_determined = record { result = λ κs a x y s t p q. p.0 ∙ sym q.0 }
@@ -67,7 +69,7 @@ fields_short_value_determined = record { result = λ κs a x y s t p q. p ∙ sy
 pub fields_first_above_determined : Determined fields-first-above.Kinds.ps fields-first-above.Kinds.r fields-first-above.Reads.Post
 fields_first_above_determined = record { result = λ κs a x y s t p q. p ∙ sym q }
 
-pub answers_number_determined : Determined Answers-number.Kinds.ps Answers-number.Kinds.r Answers-number.Reads.Post
+pub answers_number_determined : Determined answers-number.Kinds.ps answers-number.Kinds.r answers-number.Reads.Post
 answers_number_determined = record { result = λ κs a x y s t p q. p ∙ sym q }
 
 pub answers_from_number_determined : Determined answers-from-number.Kinds.ps answers-from-number.Kinds.r answers-from-number.Reads.Post
@@ -119,25 +121,25 @@ pub answers_apply_two_determined : Determined answers-apply-two.Kinds.ps answers
 answers_apply_two_determined = record { result = λ κs a x y s t p q. p ∙ sym q }
 
 pub operands_one_determined : Determined operands-one.Kinds.ps operands-one.Kinds.r operands-one.Reads.Post
-operands_one_determined = record { result = λ κs a x y s t p q. p ∙ sym q }
+operands_one_determined = record { result = λ κs a x y s t p q. answered-apart x y (p ∙ sym q) }
 
 pub operands_two_determined : Determined operands-two.Kinds.ps operands-two.Kinds.r operands-two.Reads.Post
-operands_two_determined = record { result = λ κs a x y s t p q. p ∙ sym q }
+operands_two_determined = record { result = λ κs a x y s t p q. answered-apart x y (p ∙ sym q) }
 
 pub operands_replace_determined : Determined operands-replace.Kinds.ps operands-replace.Kinds.r operands-replace.Reads.Post
-operands_replace_determined = record { result = λ κs a x y s t p q. p ∙ sym q }
+operands_replace_determined = record { result = λ κs a x y s t p q. answered-apart x y (p ∙ sym q) }
 
 pub operands_contained_determined : Determined operands-contained.Kinds.ps operands-contained.Kinds.r operands-contained.Reads.Post
-operands_contained_determined = record { result = λ κs a x y s t p q. p ∙ sym q }
+operands_contained_determined = record { result = λ κs a x y s t p q. related-apart x y (p ∙ sym q) }
 
-pub situations_fault_determined : Determined situations-fault.Kinds.ps situations-fault.Kinds.r situations-fault.Reads.Post
-situations_fault_determined = record { result = λ κs a x y s t p q. p ∙ sym q }
+pub situations_check_determined : Determined situations-check.Kinds.ps situations-check.Kinds.r situations-check.Reads.Post
+situations_check_determined = record { result = λ κs a x y s t p q. checked-apart x y (p ∙ sym q) }
 
-pub situations_by_value_fault_determined : Determined situations-by-value-fault.Kinds.ps situations-by-value-fault.Kinds.r situations-by-value-fault.Reads.Post
-situations_by_value_fault_determined = record { result = λ κs a x y s t p q. p ∙ sym q }
+pub situations_by_value_check_determined : Determined situations-by-value-check.Kinds.ps situations-by-value-check.Kinds.r situations-by-value-check.Reads.Post
+situations_by_value_check_determined = record { result = λ κs a x y s t p q. checked-apart x y (p ∙ sym q) }
 
 pub situations_merge_determined : Determined situations-merge.Kinds.ps situations-merge.Kinds.r situations-merge.Reads.Post
-situations_merge_determined = record { result = λ κs a x y s t p q. p ∙ sym q }
+situations_merge_determined = record { result = λ κs a x y s t p q. merged-apart x y (p ∙ sym q) }
 
 pub base4_weight_determined : Determined base4-weight.Kinds.ps base4-weight.Kinds.r base4-weight.Reads.Post
 base4_weight_determined = record { result = λ κs a x y s t p q. p ∙ sym q }

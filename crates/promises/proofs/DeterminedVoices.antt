@@ -1,14 +1,24 @@
 -- Each public function's contract determines what it returns: no two different results satisfy it. Here: speakers, and weekly counts.
 use mathlib.Core.Path.{sym, ◌∙◌}
+use Rattle.refusals.proofs.Apart.{checked-apart}
+use Rattle.batches.proofs.Apart.{walked-apart}
+use Rattle.weeks.proofs.Apart.{counted-apart}
 use Rattle.promises.specs.Meaning.{Determined}
+use Rattle.promises.proofs.Apart.{answered-apart, facts_read-apart, reading-apart, may_answer-apart}
 use Rattle.notices.proofs.read_notice as notices-read-notice
 use Rattle.notices.proofs.look_up as notices-look-up
 use Rattle.notices.proofs.compare as notices-compare
-use Rattle.notices.proofs.present as notices-present
-use Rattle.codes.proofs.policy_kind as codes-policy-kind
-use Rattle.codes.proofs.test_kind as codes-test-kind
-use Rattle.sets.proofs.only as sets-only
-use Rattle.sets.proofs.has as sets-has
+use Rattle.codes.proofs.PolicyKindFromU8.from as codes-policy-kind
+use Rattle.codes.proofs.TestKindFromU8.from as codes-test-kind
+use denote.RattleType.{RattleType}
+use denote.Param.Laws.{Laws, IsCopy}
+use mir.Syntax.{Dict}
+use Rattle.std.specs.declared.clone.Clone as Clone
+use Rattle.sets.specs.declared.Member as Member
+use Rattle.sets.proofs.Set.empty as sets-empty
+use Rattle.sets.proofs.Set.union as sets-union
+use Rattle.sets.proofs.Set.only as sets-only
+use Rattle.sets.proofs.Set.has as sets-has
 use Rattle.sets.proofs.apply_one as sets-apply-one
 use Rattle.sets.proofs.apply_two as sets-apply-two
 use Rattle.sets.proofs.meet as sets-meet
@@ -17,12 +27,12 @@ use Rattle.truths.proofs.negated as truths-negated
 use Rattle.truths.proofs.combine as truths-combine
 use Rattle.truths.proofs.is_answer as truths-is-answer
 use Rattle.truths.proofs.when_held as truths-when-held
-use Rattle.leaves.proofs.compared_at as leaves-compared-at
-use Rattle.leaves.proofs.present_at as leaves-present-at
+use Rattle.leaves.proofs.Hearing.compared_at as leaves-compared-at
+use Rattle.leaves.proofs.Hearing.present_at as leaves-present-at
 use Rattle.policies.proofs.policy as policies-policy
 use Rattle.voices.proofs.speak_set as voices-speak-set
 use Rattle.voices.proofs.speak as voices-speak
-use Rattle.batches.proofs.fault as batches-fault
+use Rattle.batches.proofs.check as batches-check
 use Rattle.batches.proofs.walk as batches-walk
 use Rattle.counts.proofs.none as counts-none
 use Rattle.counts.proofs.count_notice as counts-count-notice
@@ -30,7 +40,7 @@ use Rattle.weeks.proofs.count_onto as weeks-count-onto
 use Rattle.weeks.proofs.count_week as weeks-count-week
 
 pub notices_read_notice_determined : Determined notices-read-notice.Kinds.ps notices-read-notice.Kinds.r notices-read-notice.Reads.Post
-notices_read_notice_determined = record { result = λ κs a x y s t p q. p ∙ sym q }
+notices_read_notice_determined = record { result = λ κs a x y s t p q. facts_read-apart x y (p ∙ sym q) }
 
 pub notices_look_up_determined : Determined notices-look-up.Kinds.ps notices-look-up.Kinds.r notices-look-up.Reads.Post
 notices_look_up_determined = record { result = λ κs a x y s t p q. p ∙ sym q }
@@ -38,20 +48,27 @@ notices_look_up_determined = record { result = λ κs a x y s t p q. p ∙ sym q
 pub notices_compare_determined : Determined notices-compare.Kinds.ps notices-compare.Kinds.r notices-compare.Reads.Post
 notices_compare_determined = record { result = λ κs a x y s t p q. p ∙ sym q }
 
-pub notices_present_determined : Determined notices-present.Kinds.ps notices-present.Kinds.r notices-present.Reads.Post
-notices_present_determined = record { result = λ κs a x y s t p q. p ∙ sym q }
-
 pub codes_policy_kind_determined : Determined codes-policy-kind.Kinds.ps codes-policy-kind.Kinds.r codes-policy-kind.Reads.Post
 codes_policy_kind_determined = record { result = λ κs a x y s t p q. p ∙ sym q }
 
 pub codes_test_kind_determined : Determined codes-test-kind.Kinds.ps codes-test-kind.Kinds.r codes-test-kind.Reads.Post
 codes_test_kind_determined = record { result = λ κs a x y s t p q. p ∙ sym q }
 
-pub sets_only_determined : Determined sets-only.Kinds.ps sets-only.Kinds.r sets-only.Reads.Post
-sets_only_determined = record { result = λ κs a x y s t p q. p ∙ sym q }
+-- of members of any type
+module _
+    (T : RattleType) (L : Laws T) (C : IsCopy T) (M : Member.Ghosts T.Denot) (Md : Dict) (K : Clone.Ghosts T.Denot) (Kd : Dict)
+  where
+    pub sets_empty_determined : Determined (sets-empty.Kinds.ps T L C) (sets-empty.Kinds.r T L C) (sets-empty.Reads.Post T L C M Md K Kd)
+    sets_empty_determined = record { result = λ κs a x y s t p q. p ∙ sym q }
 
-pub sets_has_determined : Determined sets-has.Kinds.ps sets-has.Kinds.r sets-has.Reads.Post
-sets_has_determined = record { result = λ κs a x y s t p q. p ∙ sym q }
+    pub sets_only_determined : Determined (sets-only.Kinds.ps T L C) (sets-only.Kinds.r T L C) (sets-only.Reads.Post T L C M Md K Kd)
+    sets_only_determined = record { result = λ κs a x y s t p q. p ∙ sym q }
+
+    pub sets_has_determined : Determined (sets-has.Kinds.ps T L C) (sets-has.Kinds.r T L C) (sets-has.Reads.Post T L C M Md K Kd)
+    sets_has_determined = record { result = λ κs a x y s t p q. p ∙ sym q }
+
+    pub sets_union_determined : Determined (sets-union.Kinds.ps T L C) (sets-union.Kinds.r T L C) (sets-union.Reads.Post T L C M Md K Kd)
+    sets_union_determined = record { result = λ κs a x y s t p q. p ∙ sym q }
 
 pub sets_apply_one_determined : Determined sets-apply-one.Kinds.ps sets-apply-one.Kinds.r sets-apply-one.Reads.Post
 sets_apply_one_determined = record { result = λ κs a x y s t p q. p ∙ sym q }
@@ -78,25 +95,25 @@ pub truths_when_held_determined : Determined truths-when-held.Kinds.ps truths-wh
 truths_when_held_determined = record { result = λ κs a x y s t p q. p ∙ sym q }
 
 pub leaves_compared_at_determined : Determined leaves-compared-at.Kinds.ps leaves-compared-at.Kinds.r leaves-compared-at.Reads.Post
-leaves_compared_at_determined = record { result = λ κs a x y s t p q. p ∙ sym q }
+leaves_compared_at_determined = record { result = λ κs a x y s t p q. reading-apart x y (p ∙ sym q) }
 
 pub leaves_present_at_determined : Determined leaves-present-at.Kinds.ps leaves-present-at.Kinds.r leaves-present-at.Reads.Post
-leaves_present_at_determined = record { result = λ κs a x y s t p q. p ∙ sym q }
+leaves_present_at_determined = record { result = λ κs a x y s t p q. reading-apart x y (p ∙ sym q) }
 
 pub policies_policy_determined : Determined policies-policy.Kinds.ps policies-policy.Kinds.r policies-policy.Reads.Post
-policies_policy_determined = record { result = λ κs a x y s t p q. p ∙ sym q }
+policies_policy_determined = record { result = λ κs a x y s t p q. reading-apart x y (p ∙ sym q) }
 
 pub voices_speak_set_determined : Determined voices-speak-set.Kinds.ps voices-speak-set.Kinds.r voices-speak-set.Reads.Post
-voices_speak_set_determined = record { result = λ κs a x y s t p q. p ∙ sym q }
+voices_speak_set_determined = record { result = λ κs a x y s t p q. may_answer-apart x y (p ∙ sym q) }
 
 pub voices_speak_determined : Determined voices-speak.Kinds.ps voices-speak.Kinds.r voices-speak.Reads.Post
-voices_speak_determined = record { result = λ κs a x y s t p q. p ∙ sym q }
+voices_speak_determined = record { result = λ κs a x y s t p q. answered-apart x y (p ∙ sym q) }
 
-pub batches_fault_determined : Determined batches-fault.Kinds.ps batches-fault.Kinds.r batches-fault.Reads.Post
-batches_fault_determined = record { result = λ κs a x y s t p q. p ∙ sym q }
+pub batches_check_determined : Determined batches-check.Kinds.ps batches-check.Kinds.r batches-check.Reads.Post
+batches_check_determined = record { result = λ κs a x y s t p q. checked-apart x y (p ∙ sym q) }
 
 pub batches_walk_determined : Determined batches-walk.Kinds.ps batches-walk.Kinds.r batches-walk.Reads.Post
-batches_walk_determined = record { result = λ κs a x y s t p q. p ∙ sym q }
+batches_walk_determined = record { result = λ κs a x y s t p q. walked-apart x y (p ∙ sym q) }
 
 pub counts_none_determined : Determined counts-none.Kinds.ps counts-none.Kinds.r counts-none.Reads.Post
 counts_none_determined = record { result = λ κs a x y s t p q. p ∙ sym q }
@@ -105,7 +122,7 @@ pub counts_count_notice_determined : Determined counts-count-notice.Kinds.ps cou
 counts_count_notice_determined = record { result = λ κs a x y s t p q. p ∙ sym q }
 
 pub weeks_count_onto_determined : Determined weeks-count-onto.Kinds.ps weeks-count-onto.Kinds.r weeks-count-onto.Reads.Post
-weeks_count_onto_determined = record { result = λ κs a x y s t p q. p ∙ sym q }
+weeks_count_onto_determined = record { result = λ κs a x y s t p q. counted-apart x y (p ∙ sym q) }
 
 pub weeks_count_week_determined : Determined weeks-count-week.Kinds.ps weeks-count-week.Kinds.r weeks-count-week.Reads.Post
-weeks_count_week_determined = record { result = λ κs a x y s t p q. p ∙ sym q }
+weeks_count_week_determined = record { result = λ κs a x y s t p q. counted-apart x y (p ∙ sym q) }

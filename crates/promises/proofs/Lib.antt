@@ -19,3 +19,4 @@ pub mod Examples
 pub mod TableBack
 pub mod TableBackReplies
 pub mod Arguments
+pub mod Apart

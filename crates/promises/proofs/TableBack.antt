@@ -18,10 +18,9 @@ use Rattle.accepting.proofs.TableEncoding.{write_table}
 use Rattle.formula.specs.Meaning.{table_size}
 use Rattle.nodes.specs.Meaning.{evaluate_of}
 use Rattle.running.proofs.Heights.{evaluate-columns}
-use Rattle.compiler.specs.declared.Compiled.{Compiled}
-use Rattle.compiler.specs.Meaning.{refuse_compiled, compile_of}
+use Rattle.compiler.specs.Meaning.{Compiled, refuse_compiled, compile_of}
 use Rattle.growth.specs.Meaning.{answer_at, growth_of}
-use Rattle.listing.specs.declared.Written.{Written}
+use Rattle.listing.specs.Meaning.{Written}
 use Rattle.untable.specs.Meaning.{table_back, untable_of}
 use Rattle.recovering.specs.Meaning.{Lists, answered, Alike}
 use Rattle.recovering.proofs.Listed as listed

@@ -15,7 +15,7 @@ use Rattle.tables.specs.Meaning.{Table, says, table_of}
 use Rattle.nodes.specs.Meaning.{evaluate_of}
 use Rattle.running.proofs.Heights.{evaluate-columns}
 use Rattle.growth.specs.Meaning.{answer_at}
-use Rattle.listing.specs.declared.Written.{Written}
+use Rattle.listing.specs.Meaning.{Written}
 use Rattle.untable.specs.Meaning.{table_back, untable_of}
 use Rattle.recovering.specs.Meaning.{answered, Alike}
 use Rattle.recovering.proofs.Listed.{answered-few, answered-same}

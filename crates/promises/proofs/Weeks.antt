@@ -8,10 +8,10 @@ use mathlib.Core.List.{List}
 use native.Mathlib.Omega.{arith}
 use lib.Dec.{T, eqb}
 use lib.ListN.{length, get_or}
-use Rattle.refusals.specs.declared.Refusal.{Refusal}
+use Rattle.refusals.specs.Meaning.{Numbers}
 use Rattle.answers.specs.declared.Answer.{Answer}
 use Rattle.answers.specs.declared.Answer.TheVariants.{Silent, Bury, Keep, Clash}
-use Rattle.answers.specs.declared.Reply.{Reply}
+use Rattle.answers.specs.Meaning.{Reply}
 use Rattle.notices.specs.Meaning as notice
 use Rattle.trees.specs.Meaning.{refused}
 use Rattle.voices.specs.Meaning.{read_voice, speak_of}
@@ -103,10 +103,10 @@ module _ (batch voice : List ℕ) where
   number_0_none = at_number 0 (omega arith) ∙ records.zero-none voice (read_batch batch).notices
 
 -- "A refused voice counts every notice as refused, under the notice's number where that is refused first": each notice by itself ..
-pub notice_refused_first : (n voice : List ℕ) (q : Refusal) → notice.read_facts n ≡ notice.refused q → speak_of n voice ≡ refuse_reply q
+pub notice_refused_first : (n voice : List ℕ) (q : Numbers) → notice.read_facts n ≡ notice.refused q → speak_of n voice ≡ refuse_reply q
 notice_refused_first = records.unheard-notice
 
-module _ (voice : List ℕ) (r : Refusal) (e : read_voice voice ≡ refused r) where
+module _ (voice : List ℕ) (r : Numbers) (e : read_voice voice ≡ refused r) where
   pub refused_voice_notice : (n : List ℕ) (fs : List notice.Fact) → notice.read_facts n ≡ notice.facts fs → speak_of n voice ≡ refuse_reply r
   refused_voice_notice = records.unheard_voice voice r e
 

@@ -5,9 +5,9 @@ use mathlib.Core.Bool.{Bool, true}
 use mathlib.Core.List.{List}
 use native.Mathlib.Omega.{arith}
 use lib.ListN.{length, take}
-use Rattle.refusals.specs.declared.Refusal.{Refusal}
+use Rattle.refusals.specs.Meaning.{Numbers}
 use Rattle.answers.specs.declared.Answer.TheVariants.{Silent, Bury, Keep, Clash}
-use Rattle.answers.specs.declared.Reply.{Reply}
+use Rattle.answers.specs.Meaning.{Reply}
 use Rattle.batches.specs.Meaning.{read_batch, MOST}
 use Rattle.batches.proofs.Reading.{read_few}
 use Rattle.counts.specs.declared.Counts.{Counts}
@@ -32,7 +32,7 @@ pub record_printed_whole : (name : List ℕ) (c : Counts) (lent new : List ℕ) 
 record_printed_whole name c lent new next e short room p =
     printed_whole (record_text name c) lent new next (omega (arith, record_length name c e, short, room)) p
 
-pub batch_printed_whole : (r : Refusal) (lent new : List ℕ) (next : ℕ) → length lent ≡ 8192 → Printed lent 0 (batch_line r) new next →
+pub batch_printed_whole : (r : Numbers) (lent new : List ℕ) (next : ℕ) → length lent ≡ 8192 → Printed lent 0 (batch_line r) new next →
     take next new ≡ batch_line r
 batch_printed_whole r lent new next room p = printed_whole (batch_line r) lent new next (omega (arith, batch_length r, room)) p
 

@@ -6,8 +6,7 @@ use contract.Lifetimes.{Lfts, Within}
 use borrow.Kind.ShrSlice.{r_shr_s}
 use borrow.Table.Referent.{rt_f, f_int}
 use Rattle.std.specs.Int.{w8}
-use Rattle.refusals.specs.declared.Refusal.{Refusal}
-use Rattle.refusals.specs.Meaning.{none}
+use Rattle.refusals.specs.Meaning.{Numbers, none}
 use Rattle.answers.specs.declared.Answer.{Answer}
 use Rattle.answers.specs.declared.Answer.TheVariants.{Silent, Bury}
 use Rattle.situations.specs.declared.Situation.{Situation}
@@ -18,6 +17,7 @@ use Rattle.tables.specs.Meaning.{Table, read_of, table_of}
 use Rattle.formula.specs.Meaning.{added_rows, table_nodes}
 use Rattle.compiler.specs.Meaning.{compile_of, written_of}
 use Rattle.replying.specs.Meaning.{published}
+use Rattle.text.specs.declared.pages.Page.{Page}
 use Rattle.listing.specs.Meaning as listing
 use Rattle.untable.specs.Meaning.{table_back, untable_of}
 
@@ -59,6 +59,43 @@ pub record DeterminedLent
       Post κs a x s →
       Post κs a y t →
       exit κs s ≡ exit κs t
+
+-- The same of a function that makes a page on lent memory, and of one that writes on a page: every lent byte, and the next place.
+pub record DeterminedMade
+    {n : ℕ}
+    (ps : List (ParamKind n))
+    (r : ResultKind n)
+    (Post : Out n ps r)
+    (page : (κs : Lfts n) → (res_t r κs).Denot → Page) :
+    Type 0 where
+  pub lent :
+      (κs : Lfts n) (a : Dens κs ps) (x y : (res_t r κs).Denot) (s t : AtExit (ended_of n ps r) κs) →
+      Post κs a x s →
+      Post κs a y t →
+      (page κs x).text.now ≡ (page κs y).text.now
+  pub next :
+      (κs : Lfts n) (a : Dens κs ps) (x y : (res_t r κs).Denot) (s t : AtExit (ended_of n ps r) κs) →
+      Post κs a x s →
+      Post κs a y t →
+      (page κs x).next ≡ (page κs y).next
+
+pub record DeterminedPage
+    {n : ℕ}
+    (ps : List (ParamKind n))
+    (r : ResultKind n)
+    (Post : Out n ps r)
+    (exit : (κs : Lfts n) → AtExit (ended_of n ps r) κs → Page) :
+    Type 0 where
+  pub lent :
+      (κs : Lfts n) (a : Dens κs ps) (x y : (res_t r κs).Denot) (s t : AtExit (ended_of n ps r) κs) →
+      Post κs a x s →
+      Post κs a y t →
+      (exit κs s).text.now ≡ (exit κs t).text.now
+  pub next :
+      (κs : Lfts n) (a : Dens κs ps) (x y : (res_t r κs).Denot) (s t : AtExit (ended_of n ps r) κs) →
+      Post κs a x s →
+      Post κs a y t →
+      (exit κs s).next ≡ (exit κs t).next
 
 -- An entry point asks nothing: its `requires` is met by all arguments. `Pre` is the function's own, as the checker reads it off the source.
 pub record AsksNothing {n : ℕ} (ps : List (ParamKind n)) (Pre : In n ps) : Type 0 where
@@ -208,7 +245,7 @@ abbrev pub most_text : List ℕ
 most_text = (114 ∷ 101 ∷ 102 ∷ 117 ∷ 115 ∷ 101 ∷ 100 ∷ 32 ∷ 56 ∷ 32 ∷ 50 ∷ 48 ∷ 48 ∷ 55 ∷ 55 ∷ 49 ∷ 32 ∷ 48 ∷ 10 ∷ [])
 
 -- The numbers of a batch's refusal, which stand beside its counts.
-pub record WeekReplied (r : Refusal) : Type 0 where
+pub record WeekReplied (r : Numbers) : Type 0 where
   pub success : r.number ≡ 0 → r ≡ none
   pub refused : (r.number ≡ 0 → ⊥) → T (published r.number)
   pub second : r.second ≡ 0

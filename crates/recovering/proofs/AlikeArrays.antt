@@ -6,11 +6,9 @@ use mathlib.Core.List.{List, map}
 use lib.Dec.{eqb}
 use lib.ListN.{length, replicate, length-replicate, length-map}
 use borrow.Author.Tests.{eqb-true, eqb-false}
-use Rattle.answers.specs.Meaning.{number}
+use Rattle.answers.specs.Meaning.{Reply, number}
 use Rattle.answers.specs.declared.Answer.{Answer}
-use Rattle.answers.specs.declared.Reply.{Reply}
-use Rattle.refusals.specs.Meaning.{refused, SITUATION}
-use Rattle.refusals.specs.declared.Refusal.{Refusal}
+use Rattle.refusals.specs.Meaning.{Numbers, refused, SITUATION}
 use Rattle.situations.specs.Meaning.{outside, fault}
 use Rattle.tables.specs.Meaning.{Table, table_bytes}
 use Rattle.nodes.specs.Meaning.{evaluate_of}
@@ -32,7 +30,7 @@ module _ (nodes others : List ℕ) (n : ℕ) (alike : Alike nodes others n) wher
   answers-alike some few s long =
       answers-evaluate nodes s (rw long some) (rw long few)
       ∙ ap (λ (r : Reply). r.answer)
-      (alike (map number s) (ap (λ (r : Refusal). r.number) (numbers-pass s (rw long some) (rw long few))) (length-map s number ∙ long))
+      (alike (map number s) (ap (λ (r : Numbers). r.number) (numbers-pass s (rw long some) (rw long few))) (length-map s number ∙ long))
       ∙ sym (answers-evaluate others s (rw long some) (rw long few))
 
   refused-alike : (evaluate_of nodes (replicate n 0)).refusal ≡ (evaluate_of others (replicate n 0)).refusal

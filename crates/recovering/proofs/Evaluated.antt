@@ -4,7 +4,7 @@ use mathlib.Core.Path.{◌≡◌, ap, sym, ◌∙◌}
 use mathlib.Core.List.{List, map}
 use lib.ListN.{length, replicate}
 use borrow.Author.Tests.{eq-eqb}
-use Rattle.refusals.specs.declared.Refusal.{Refusal}
+use Rattle.refusals.specs.Meaning.{Numbers}
 use Rattle.answers.specs.Meaning.{number, succeed}
 use Rattle.answers.specs.declared.Answer.{Answer}
 use Rattle.situations.specs.Meaning.{fault, answers_of}
@@ -23,7 +23,7 @@ pub answers-evaluate :
     (nodes : List ℕ) (s : List Answer) → 1 ≤ length s → length s ≤ 6 → answer_at nodes s ≡ (evaluate_of nodes (map number s)).answer
 answers-evaluate nodes s some few =
     ap (answer_at nodes) (sym (answers_of-number s))
-    ∙ sym (evaluate-answers nodes (map number s) (ap (λ (r : Refusal). r.number) (numbers-pass s some few)))
+    ∙ sym (evaluate-answers nodes (map number s) (ap (λ (r : Numbers). r.number) (numbers-pass s some few)))
 
 -- it is refused at every situation as it is at silent everywhere
 pub refused_anywhere :
@@ -36,4 +36,4 @@ pub evaluate_anywhere :
     (evaluate_of nodes (replicate (length s) 0)).refusal.number ≡ 0 →
     evaluate_of nodes s ≡ succeed (answer_at nodes (answers_of s))
 evaluate_anywhere nodes s h fine =
-    evaluate-fine nodes s (ap (λ (r : Refusal). r.number) (refused_anywhere nodes s h) ∙ fine) ∙ ap succeed (evaluate-answers nodes s h)
+    evaluate-fine nodes s (ap (λ (r : Numbers). r.number) (refused_anywhere nodes s h) ∙ fine) ∙ ap succeed (evaluate-answers nodes s h)

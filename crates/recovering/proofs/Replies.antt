@@ -8,22 +8,20 @@ use lib.Dec.{ltb, eqb}
 use lib.ListN.{length, drop, replicate}
 use borrow.Author.Tests.{lt-ltb, le-ltb, eq-eqb, ne_eqb, eqb-true, eqb-false, ltb-true, ltb-false}
 use native.Mathlib.Omega.{arith}
-use Rattle.refusals.specs.Meaning.{none, refused, ROWS, ROOM, SITUATION}
-use Rattle.refusals.specs.declared.Refusal.{Refusal}
+use Rattle.refusals.specs.Meaning.{Numbers, none, refused, ROWS, ROOM, SITUATION}
 use Rattle.tables.specs.Meaning.{Table, table_bytes}
 use Rattle.nodes.specs.Meaning.{evaluate_of}
 use Rattle.running.proofs.Heights.{evaluate-columns}
 use Rattle.growth.specs.Meaning.{answer_at}
 use Rattle.growing.proofs.Verdicts.{growth_silent}
 use Rattle.replying.proofs.NodeNumbers.{evaluate-high, growth-outside, columns-outside}
-use Rattle.listing.specs.declared.Written.{Written}
-use Rattle.listing.specs.Meaning.{refuse_written, reply_of, list_of, written_of}
+use Rattle.listing.specs.Meaning.{Written, refuse_written, reply_of, list_of, written_of}
 use Rattle.untable.specs.Meaning.{untable_of}
 use Rattle.recovering.specs.Meaning.{answered}
 use Rattle.recovering.proofs.Listed.{listed-rows, listed-bytes}
 
 module _ (nodes : List ℕ) (n room : ℕ) where
-  abbrev check : Refusal
+  abbrev check : Numbers
   check = (evaluate_of nodes (replicate n 0)).refusal
 
   abbrev Fine : Type 0
@@ -139,12 +137,12 @@ module _ (nodes : List ℕ) (n room : ℕ) where
   pub outside-refused : (n < 1) ⊎ (6 < n) → untable_of nodes n room ≡ refuse_written (refused SITUATION n)
   outside-refused o =
       let e : check ≡ refused SITUATION n = sym (growth_silent nodes n) ∙ growth-outside nodes n o in
-      untable-refused (λ z. let k = ap (λ (r : Refusal). r.number) e in omega (arith, z, k)) ∙ ap refuse_written e
+      untable-refused (λ z. let k = ap (λ (r : Numbers). r.number) e in omega (arith, z, k)) ∙ ap refuse_written e
 
   pub outside_exactly : ((untable_of nodes n room).refusal.number ≡ SITUATION) ↔ ((n < 1) ⊎ (6 < n))
   outside_exactly = (
     untable_either (λ x. number x ≡ SITUATION → (n < 1) ⊎ (6 < n))
-        (λ h e. columns-outside nodes n (ap (λ (r : Refusal). r.number) (growth_silent nodes n) ∙ e))
+        (λ h e. columns-outside nodes n (ap (λ (r : Numbers). r.number) (growth_silent nodes n) ∙ e))
         (λ h l e. absurd (omega (arith, e)))
         (λ h l m e. absurd (omega (arith, e)))
         (λ h l m e. absurd (omega (arith, e))),

@@ -7,17 +7,16 @@ use lib.Dec.{eqb}
 use borrow.Author.Tests.{eq-eqb, ne_eqb, eqb-true, eqb-false}
 use native.Mathlib.Nat.{eq-or-lt_of_le}
 use native.Mathlib.Omega.{arith}
-use Rattle.refusals.specs.Meaning.{none, after, first_refusal}
-use Rattle.refusals.specs.declared.Refusal.{Refusal}
+use Rattle.refusals.specs.Meaning.{Numbers, none, after, first_refusal}
 
 -- after checks that refuse nothing the next one decides
-pub first_next : (f : ℕ → Refusal) (n : ℕ) → first_refusal f n ≡ none → first_refusal f (suc n) ≡ f n
+pub first_next : (f : ℕ → Numbers) (n : ℕ) → first_refusal f n ≡ none → first_refusal f (suc n) ≡ f n
 unfolding first_refusal
 first_next f n e = rw e
 
 -- a refusal stays the first one, whatever is checked later
 pub first_stays :
-    (f : ℕ → Refusal) (k n : ℕ) →
+    (f : ℕ → Numbers) (k n : ℕ) →
     ((first_refusal f k).number ≡ 0 → ⊥) →
     k ≤ n →
     first_refusal f n ≡ first_refusal f k
@@ -31,14 +30,14 @@ first_stays f k (suc n) h l =
     later e = rw (e, ne_eqb (first_refusal f k).number 0 h)
 
 -- nothing is refused exactly if no check refuses
-after_none : (a b : Refusal) → (after a (λ r. r) b).number ≡ 0 → (a.number ≡ 0) × (b.number ≡ 0)
+after_none : (a b : Numbers) → (after a (λ r. r) b).number ≡ 0 → (a.number ≡ 0) × (b.number ≡ 0)
 after_none a b h = go (eqb a.number 0) refl
   where
     go : (t : Bool) → eqb a.number 0 ≡ t → (a.number ≡ 0) × (b.number ≡ 0)
     go true e = (eqb-true a.number 0 e, rw e at h)
     go false e = absurd (eqb-false a.number 0 e (rw e at h))
 
-pub first-none : (f : ℕ → Refusal) (n : ℕ) → (first_refusal f n).number ≡ 0 → (k : ℕ) → k < n → (f k).number ≡ 0
+pub first-none : (f : ℕ → Numbers) (n : ℕ) → (first_refusal f n).number ≡ 0 → (k : ℕ) → k < n → (f k).number ≡ 0
 unfolding first_refusal
 first-none f zero h k l = absurd (omega arith)
 first-none f (suc n) h k l =
@@ -48,24 +47,24 @@ first-none f (suc n) h k l =
     go : k ≡ n → (f n).number ≡ 0 → (f k).number ≡ 0
     go e q = rw e q
 
-pub first-all : (f : ℕ → Refusal) (n : ℕ) → ((k : ℕ) → k < n → (f k).number ≡ 0) → (first_refusal f n).number ≡ 0
+pub first-all : (f : ℕ → Numbers) (n : ℕ) → ((k : ℕ) → k < n → (f k).number ≡ 0) → (first_refusal f n).number ≡ 0
 unfolding first_refusal
 first-all f zero h = refl
 first-all f (suc n) h =
     rw (eq-eqb (first_refusal f n).number 0 (first-all f n (λ k l. h k (omega arith)))) (h n (omega arith))
 
 -- what is refused is the refusal of one check, and none before it refuses
-pub record Found (f : ℕ → Refusal) (n k : ℕ) : Type 0 where
+pub record Found (f : ℕ → Numbers) (n k : ℕ) : Type 0 where
   pub inside : k < n
   pub same : first_refusal f n ≡ f k
   pub before : (j : ℕ) → j < k → (f j).number ≡ 0
 
-found_here : (f : ℕ → Refusal) (n : ℕ) → (first_refusal f n).number ≡ 0 → Found f (suc n) n
+found_here : (f : ℕ → Numbers) (n : ℕ) → (first_refusal f n).number ≡ 0 → Found f (suc n) n
 unfolding first_refusal
 found_here f n e =
     record { inside = omega arith; same = rw (eq-eqb (first_refusal f n).number 0 e); before = first-none f n e }
 
-found_before : (f : ℕ → Refusal) (n k : ℕ) → ((first_refusal f n).number ≡ 0 → ⊥) → Found f n k → Found f (suc n) k
+found_before : (f : ℕ → Numbers) (n k : ℕ) → ((first_refusal f n).number ≡ 0 → ⊥) → Found f n k → Found f (suc n) k
 unfolding first_refusal
 found_before f n k e w =
     record {
@@ -74,7 +73,7 @@ found_before f n k e w =
       before = w.before;
     }
 
-pub first_found : (f : ℕ → Refusal) (n : ℕ) → ((first_refusal f n).number ≡ 0 → ⊥) → (k : ℕ) × Found f n k
+pub first_found : (f : ℕ → Numbers) (n : ℕ) → ((first_refusal f n).number ≡ 0 → ⊥) → (k : ℕ) × Found f n k
 unfolding first_refusal
 first_found f zero h = absurd (h refl)
 first_found f (suc n) h = go (eqb (first_refusal f n).number 0) refl (first_found f n)

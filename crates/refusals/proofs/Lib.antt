@@ -1,1 +1,3 @@
 pub mod First
+pub mod Checks
+pub mod Apart

@@ -1,79 +1,65 @@
-// The refusals: the numbers that a caller gets, and the three that every reply starts with.
-// It refuses nothing itself. Number 0 is success, 15 is unused, and 22 to 27 are not given yet.
+// The refusals: what can be wrong with an input, by document 01's names and numbers.
+//
+// A call that may refuse gives a `Result<_, Refusal>`; `checked` and `replied` of its definitions say which three numbers a caller
+// gets of that. This crate refuses nothing itself. Number 0 is success, 15 is unused, and 22 to 27 are not given yet.
 
 #![tactic(auto)]
 
 ghost use Rattle.std.specs.Prelude.{◌≡◌};
-ghost use Rattle.refusals.specs.Meaning.{none, refused};
+ghost use Rattle.refusals.specs.Meaning.{kind_number, refusal_at};
 
-pub const SHORT: u8 = 1;
+// What is wrong.
+#[derive(Clone, Copy, Debug, PartialEq, Eq)]
+pub enum Kind {
+    Short = 1,
+    Start = 2,
+    Tag = 3,
+    Len = 4,
+    Value = 5,
+    Rows = 6,
+    Overlap = 7,
+    Room = 8,
+    Node = 9,
+    Column = 10,
+    Under = 11,
+    Deep = 12,
+    End = 13,
+    Situation = 14,
+    Code = 16,
+    Cut = 17,
+    Nest = 18,
+    Tail = 19,
+    Rise = 20,
+    Facts = 21,
+    Week = 28,
+}
 
-pub const START: u8 = 2;
+// The number that a caller gets.
+impl From<Kind> for u8 {
+    ghost from_gives = { λ kind number. number ≡ kind_number kind };
 
-pub const TAG: u8 = 3;
+    fn from(kind: Kind) -> u8 {
+        kind as u8
+    }
+}
 
-pub const LEN: u8 = 4;
-
-pub const VALUE: u8 = 5;
-
-pub const ROWS: u8 = 6;
-
-pub const OVERLAP: u8 = 7;
-
-pub const ROOM: u8 = 8;
-
-pub const NODE: u8 = 9;
-
-pub const COLUMN: u8 = 10;
-
-pub const UNDER: u8 = 11;
-
-pub const DEEP: u8 = 12;
-
-pub const END: u8 = 13;
-
-pub const SITUATION: u8 = 14;
-
-pub const CODE: u8 = 16;
-
-pub const CUT: u8 = 17;
-
-pub const NEST: u8 = 18;
-
-pub const TAIL: u8 = 19;
-
-pub const RISE: u8 = 20;
-
-pub const FACTS: u8 = 21;
-
-pub const WEEK: u8 = 28;
-
-// The number, its place (an offset or an index, unless said) and a second number, which only OVERLAP has.
-#[derive(Clone, Copy)]
+// What is wrong, its place (an offset or an index, unless said) and a second number, which only OVERLAP has.
+#[derive(Clone, Copy, Debug, PartialEq, Eq)]
 pub struct Refusal {
-    pub number: u8,
+    pub kind: Kind,
     pub place: usize,
     pub second: usize,
 }
 
-// Success.
-pub fn none() -> Refusal
-    ensures { result ≡ none }
-{
-    Refusal {
-        number: 0,
-        place: 0,
-        second: 0,
-    }
-}
-
-// A refusal at a place.
-pub fn refused(number: u8, place: usize) -> Refusal
-    ensures { result ≡ refused number place }
-{
-    Refusal {
-        number,
-        place,
-        second: 0,
+impl Refusal {
+    // A refusal at a place, with no second number.
+    pub fn at(kind: Kind, place: usize) -> Refusal
+        ensures { result ≡ refusal_at kind place }
+    {
+        Refusal {
+            kind,
+            place,
+            second: 0,
+        }
     }
 }

@@ -8,15 +8,13 @@ use lib.ListN.{length, take, drop, length-map}
 use lib.Seq.{take_at, length-take-le}
 use borrow.Author.Tests.{eqb-true, eqb-false, eq-eqb, le-ltb}
 use native.Mathlib.Omega.{arith}
-use Rattle.refusals.specs.Meaning.{none}
-use Rattle.refusals.specs.declared.Refusal.{Refusal}
+use Rattle.refusals.specs.Meaning.{Numbers, none}
 use Rattle.fields.specs.Meaning.{first_above}
 use Rattle.answers.specs.Meaning.{number, from_number}
 use Rattle.answers.specs.declared.Answer.{Answer}
 use Rattle.answers.proofs.Claims.{number_small}
 use Rattle.situations.specs.declared.Situation.{Situation}
-use Rattle.situations.specs.declared.Merged.{Merged}
-use Rattle.situations.specs.Meaning.{answers_of, fault, fault_of, merge, merge_bytes, merge_of, columns}
+use Rattle.situations.specs.Meaning.{Merged, answers_of, fault, fault_of, merge, merge_bytes, merge_of, columns}
 use Rattle.situations.proofs.Faults.{fault-none, fault-columns, fault_of_slice}
 use Rattle.situations.proofs.MergeReply.{faultless_short}
 use Rattle.situations.proofs.Merging.{merge-length}
@@ -102,7 +100,7 @@ module _ (s t : Situation) (six : length s.answers ≡ 6) (m : Mergeable s t) wh
   short = faultless_short s refl m.first
 
   slice : (fault (take s.length s.answers)).number ≡ 0
-  slice = ap (λ (r : Refusal). r.number) (fault_of_slice s short refl) ∙ m.first
+  slice = ap (λ (r : Numbers). r.number) (fault_of_slice s short refl) ∙ m.first
 
   taken : length (take s.length s.answers) ≡ s.length
   taken = length-take-le s.length s.answers (omega (arith, short))
@@ -123,7 +121,7 @@ module _ (s t : Situation) (six : length s.answers ≡ 6) (m : Mergeable s t) wh
   joined_passes : (fault_of (joined s t)).number ≡ 0
   joined_passes =
       let some : 1 ≤ s.length = rw taken at (fault-columns (take s.length s.answers) slice).0 in
-      ap (λ (r : Refusal). r.number)
+      ap (λ (r : Numbers). r.number)
       (sym (fault_of_slice (joined s t) short refl)
       ∙ ap fault front
       ∙ numbers-pass both (rw both_long some) (rw both_long short))

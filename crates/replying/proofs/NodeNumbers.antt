@@ -8,41 +8,38 @@ use lib.Dec.{T, ltb, eqb}
 use lib.ListN.{length, take, get_or}
 use borrow.Author.Tests.{ltb-true, ltb-false}
 use native.Mathlib.Omega.{arith}
-use Rattle.refusals.specs.Meaning.{none, refused, after, NODE, COLUMN, UNDER, DEEP, END, SITUATION, VALUE}
-use Rattle.refusals.specs.declared.Refusal.{Refusal}
+use Rattle.refusals.specs.Meaning.{Numbers, none, refused, after, NODE, COLUMN, UNDER, DEEP, END, SITUATION, VALUE}
 use Rattle.fields.specs.Meaning.{first_above}
-use Rattle.answers.specs.Meaning.{succeed}
+use Rattle.answers.specs.Meaning.{Reply, succeed}
 use Rattle.answers.specs.declared.Answer.{Answer}
 use Rattle.answers.specs.declared.Answer.TheVariants.{Silent}
-use Rattle.answers.specs.declared.Reply.{Reply}
 use Rattle.situations.specs.declared.Situation.{Situation}
 use Rattle.situations.specs.Meaning.{outside, answers_of, fault, fault_of}
 use Rattle.situations.proofs.Silent.{silent, silent_sound, silent_short, silent_long}
-use Rattle.nodes.specs.declared.Climbed.{Climbed}
 use Rattle.nodes.specs.declared.Node.{Node}
 use Rattle.nodes.specs.declared.Node.TheVariants.{Constant, Negate, Turn, Meet, Join, Column, Foreign}
 use Rattle.nodes.specs.declared.Profile.{Profile}
-use Rattle.nodes.specs.Meaning.{node_of, full, to, stop, climb_push, climb_down, climb, act, end_fault, heights, run, evaluate_of}
+use Rattle.nodes.specs.Meaning.{Climbed, node_of, full, to, stop, climb_push, climb_down, climb, act, end_fault, heights, run, evaluate_of}
 use Rattle.running.proofs.Heights.{evaluate-heights}
 use Rattle.growth.specs.Meaning.{growth_of}
 use Rattle.growing.proofs.Verdicts.{growth_silent}
 use Rattle.operands.specs.Meaning.{operand_fault}
-use Rattle.replying.proofs.ReplyLaws.{either, Numbers, numbers-none, numbers-cond, numbers-refused, replied_success, replied_after, replied_fault}
+use Rattle.replying.proofs.ReplyLaws.{either, Published, numbers-none, numbers-cond, numbers-refused, replied_success, replied_after, replied_fault}
 use Rattle.replying.specs.Meaning.{document01, Replied, refuse_reply}
 
 -- a situation's check
-pub fault-numbers : (s : List ℕ) → Numbers (fault s)
+pub fault-numbers : (s : List ℕ) → Published (fault s)
 unfolding fault
 fault-numbers s =
     numbers-cond (outside (length s)) SITUATION (length s) tt
     (numbers-cond (ltb (first_above 3 s) (length s)) SITUATION (first_above 3 s) tt numbers-none)
 
-pub fault_of-numbers : (s : Situation) → Numbers (fault_of s)
+pub fault_of-numbers : (s : Situation) → Published (fault_of s)
 unfolding fault_of
 fault_of-numbers s = numbers-cond (ltb 6 s.length) SITUATION s.length tt (fault-numbers (take s.length s.answers))
 
 -- the operands' check
-pub operand-numbers : (operands : List ℕ) → Numbers (operand_fault operands)
+pub operand-numbers : (operands : List ℕ) → Published (operand_fault operands)
 unfolding operand_fault
 operand-numbers operands =
     numbers-cond (ltb (first_above 3 operands) (length operands)) VALUE (first_above 3 operands) tt numbers-none
@@ -71,7 +68,7 @@ module _ (P : ℕ → Type 0) (clear : P 0) (node : P NODE) (column : P COLUMN) 
 
   -- so are the nodes of an array, or by END
   module _ (end : P END) where
-    abbrev Told : Refusal → Type 0
+    abbrev Told : Numbers → Type 0
     Told r = P r.number
 
     pub heights-each : (profile : Profile) (n place height : ℕ) (nodes : List ℕ) → P (heights profile n place height nodes).number
@@ -105,7 +102,7 @@ Answers x = Replied (λ (x : Reply). x.refusal) refuse_reply x
 pub answers-succeed : (a : Answer) → Answers (succeed a)
 answers-succeed a = replied_success (λ (x : Reply). x.refusal) refuse_reply (succeed a) refl
 
-pub answers-after : (check : Refusal) (x : Reply) → Numbers check → Answers x → Answers (after check refuse_reply x)
+pub answers-after : (check : Numbers) (x : Reply) → Published check → Answers x → Answers (after check refuse_reply x)
 answers-after = replied_after (λ (x : Reply). x.refusal) refuse_reply (λ r. refl)
 
 run-answers :
@@ -114,7 +111,7 @@ run-answers :
 unfolding run
 run-answers profile s place stack [] =
     answers-after (end_fault place (length stack)) (succeed (get_or stack 0 Silent))
-    (either Numbers (eqb (length stack) 1) none (refused END place) numbers-none (numbers-refused END place tt))
+    (either Published (eqb (length stack) 1) none (refused END place) numbers-none (numbers-refused END place tt))
     (answers-succeed (get_or stack 0 Silent))
 run-answers profile s place stack (b ∷ nodes) =
     replied_fault (λ (x : Reply). x.refusal) refuse_reply (λ r. refl) (climb profile (length s) (node_of b) (length stack)).fault place

@@ -7,23 +7,20 @@ use lib.Dec.{ltb, eqb}
 use lib.ListN.{length, drop, get_or}
 use borrow.Author.Tests.{eqb-true, ltb-true}
 use native.Mathlib.Omega.{arith}
-use Rattle.refusals.specs.Meaning.{none, refused, after, SHORT, START, TAG, LEN, VALUE, ROWS, OVERLAP, ROOM}
-use Rattle.refusals.specs.declared.Refusal.{Refusal}
+use Rattle.refusals.specs.Meaning.{Numbers, none, refused, after, SHORT, START, TAG, LEN, VALUE, ROWS, OVERLAP, ROOM}
 use Rattle.fields.specs.Meaning.{short_header, short_value, first_above}
 use Rattle.situations.specs.Meaning.{outside}
 use Rattle.rows.specs.Meaning.{row_width, row_count, pair_fault, overlap_of, overlap_in, disagree_at, first_overlap}
-use Rattle.tables.specs.declared.TableRead.{TableRead}
 use Rattle.faults.specs.Meaning.{columns_of, other_tag, row_too_many, other_length, cells_at, value_fault, columns_fault, row_fault}
 use Rattle.defaults.specs.Meaning.{has_default, default_fault}
-use Rattle.tables.specs.Meaning.{behind_columns, rows_start, rows_part, table_of, refuse_table, accept_table, rows_from, fields_of, read_of}
-use Rattle.compiler.specs.declared.Compiled.{Compiled}
+use Rattle.tables.specs.Meaning.{TableRead, behind_columns, rows_start, rows_part, table_of, refuse_table, accept_table, rows_from, fields_of, read_of}
 use Rattle.formula.specs.Meaning.{table_size}
-use Rattle.compiler.specs.Meaning.{refuse_compiled, compile_of}
+use Rattle.compiler.specs.Meaning.{Compiled, refuse_compiled, compile_of}
 use Rattle.accepting.proofs.BelowOverlap.{fields_of-small}
-use Rattle.replying.proofs.ReplyLaws.{either, Numbers, numbers-none, numbers-overlap, numbers-cond, first-each, replied_success, replied_numbers, replied_refuse, replied_after}
+use Rattle.replying.proofs.ReplyLaws.{either, Published, numbers-none, numbers-overlap, numbers-cond, first-each, replied_success, replied_numbers, replied_refuse, replied_after}
 use Rattle.replying.specs.Meaning.{Replied}
 
-columns_fault-numbers : (t : List ℕ) → Numbers (columns_fault t)
+columns_fault-numbers : (t : List ℕ) → Published (columns_fault t)
 unfolding columns_fault
 columns_fault-numbers t =
     numbers-cond (eqb (length t) 0) START 0 tt
@@ -33,17 +30,17 @@ columns_fault-numbers t =
     (numbers-cond (short_value 1 t) SHORT 0 tt
     (numbers-cond (outside (columns_of t)) VALUE 3 tt numbers-none)))))
 
-default_fault-numbers : (part : List ℕ) → Numbers (default_fault part)
+default_fault-numbers : (part : List ℕ) → Published (default_fault part)
 unfolding default_fault
 default_fault-numbers part =
-    either Numbers (has_default part) _ none
+    either Published (has_default part) _ none
     (numbers-cond (short_header part) SHORT 4 tt
     (numbers-cond (other_length 1 part) LEN 4 tt
     (numbers-cond (short_value 1 part) SHORT 4 tt
     (numbers-cond (ltb 3 (get_or part 3 0)) VALUE 7 tt numbers-none))))
     numbers-none
 
-row_fault-numbers : (left n at : ℕ) (rows : List ℕ) → Numbers (row_fault left n at rows)
+row_fault-numbers : (left n at : ℕ) (rows : List ℕ) → Published (row_fault left n at rows)
 unfolding row_fault value_fault
 row_fault-numbers left n at rows =
     let k = first_above 4 (cells_at n rows) in
@@ -57,7 +54,7 @@ row_fault-numbers left n at rows =
 
 -- a pair of rows is refused by OVERLAP or not at all
 first_overlap-each :
-    (P : Refusal → Type 0) →
+    (P : Numbers → Type 0) →
     P none →
     ((later earlier : ℕ) → P (record { number = OVERLAP; place = later; second = earlier })) →
     (n : ℕ) (rows : List ℕ) →
@@ -73,10 +70,10 @@ first_overlap-each P h k n rows =
 abbrev pub Read : TableRead → Type 0
 Read x = Replied (λ (x : TableRead). x.refusal) refuse_table x
 
-read_refuse : (r : Refusal) → Numbers r → Read (refuse_table r)
+read_refuse : (r : Numbers) → Published r → Read (refuse_table r)
 read_refuse = replied_refuse (λ (x : TableRead). x.refusal) refuse_table (λ r. refl)
 
-read_after : (check : Refusal) (x : TableRead) → Numbers check → Read x → Read (after check refuse_table x)
+read_after : (check : Numbers) (x : TableRead) → Published check → Read x → Read (after check refuse_table x)
 read_after = replied_after (λ (x : TableRead). x.refusal) refuse_table (λ r. refl)
 
 read_accept : (n rows : ℕ) → Read (accept_table n rows)
@@ -107,11 +104,11 @@ read_of_read t =
     read_after (fields_of t).refusal (after (first_overlap (columns_of t) (rows_part t)) refuse_table (fields_of t))
     (replied_numbers (λ (x : TableRead). x.refusal) refuse_table (fields_of t) (fields_of_read t))
     (read_after (first_overlap (columns_of t) (rows_part t)) (fields_of t)
-    (first_overlap-each Numbers numbers-none numbers-overlap (columns_of t) (rows_part t))
+    (first_overlap-each Published numbers-none numbers-overlap (columns_of t) (rows_part t))
     (fields_of_read t))
 
 -- reading refuses by no number above OVERLAP
-abbrev Low : Refusal → Type 0
+abbrev Low : Numbers → Type 0
 Low r = r.number ≤ 7
 
 abbrev LowRead : TableRead → Type 0
@@ -121,7 +118,7 @@ pub read_of-low : (t : List ℕ) → (read_of t).refusal.number ≤ 7
 unfolding read_of
 read_of-low t =
     let few : Low (fields_of t).refusal = let six = fields_of-small t in omega arith in
-    let overlaps : Refusal = first_overlap (columns_of t) (rows_part t) in
+    let overlaps : Numbers = first_overlap (columns_of t) (rows_part t) in
     let low : Low overlaps = first_overlap-each Low (omega arith) (λ later earlier. omega arith) (columns_of t) (rows_part t) in
     either LowRead (eqb (fields_of t).refusal.number 0) (after overlaps refuse_table (fields_of t)) (refuse_table (fields_of t).refusal)
     (either LowRead (eqb overlaps.number 0) (fields_of t) (refuse_table overlaps) few low)

@@ -5,11 +5,10 @@ use mathlib.Core.List.{List, []}
 use lib.Dec.{ltb, leb, eqb}
 use lib.Dec as dec
 use lib.ListN.{length, drop, get_or}
-use Rattle.refusals.specs.declared.Refusal.{Refusal}
 use Rattle.refusals.specs.Meaning as refusal
-use Rattle.refusals.specs.Meaning.{none, after, SHORT, TAG, LEN, RISE, FACTS, CODE, CUT, NEST, TAIL}
+use Rattle.refusals.specs.Meaning.{Numbers, none, after, SHORT, TAG, LEN, RISE, FACTS, CODE, CUT, NEST, TAIL}
 use Rattle.fields.specs.Meaning.{tag, size, short_header, short_value, two_at, four_at}
-use Rattle.notices.specs.declared.Noticed.{Noticed}
+use Rattle.notices.specs.Meaning.{Noticed}
 use Rattle.notices.specs.Meaning as notice
 use Rattle.codes.specs.declared.PolicyKind.{PolicyKind}
 use Rattle.codes.specs.declared.PolicyKind.TheVariants as P
@@ -18,19 +17,18 @@ use Rattle.codes.specs.declared.TestKind.TheVariants as T
 use Rattle.codes.specs.Meaning.{policy_kind, test_kind}
 use Rattle.trees.specs.Meaning.{Policy, Test, Read, made, refused, and_then, comparison, present, comparison_at, present_at}
 use Rattle.trees.specs.Meaning.{policy_by, test_by, policy_at, test_at}
-use Rattle.voices.specs.declared.Heard.{Heard}
-use Rattle.voices.specs.Meaning.{read_voice, unheard, heard, hear_of, received, speak_of}
-use Rattle.replying.proofs.ReplyLaws.{either, Numbers, Refuses, refuses_numbers, numbers-none, numbers-refused}
+use Rattle.voices.specs.Meaning.{Heard, read_voice, unheard, heard, hear_of, received, speak_of}
+use Rattle.replying.proofs.ReplyLaws.{either, Published, Refuses, refuses_numbers, numbers-none, numbers-refused}
 use Rattle.replying.proofs.ReplyLaws.{replied_success, replied_refuse}
 use Rattle.replying.proofs.NodeNumbers.{Answers}
 use Rattle.replying.specs.Meaning.{spoken, Replied, refuse_noticed}
 
 -- notices: what holds of the five refusals and of none holds of every check
-abbrev ReadsBy : (Refusal → Type 0) → notice.Reading → Type 0
+abbrev ReadsBy : (Numbers → Type 0) → notice.Reading → Type 0
 ReadsBy P (notice.facts fs) = Unit {0}
 ReadsBy P (notice.refused r) = P r
 
-module _ (P : Refusal → Type 0) (clear : P none)
+module _ (P : Numbers → Type 0) (clear : P none)
     (short : (at : ℕ) → P (refusal.refused SHORT at)) (other : (at : ℕ) → P (refusal.refused TAG at))
     (len : (at : ℕ) → P (refusal.refused LEN at)) (rise : (at : ℕ) → P (refusal.refused RISE at))
     (many : (at : ℕ) → P (refusal.refused FACTS at)) where
@@ -64,15 +62,15 @@ module _ (P : Refusal → Type 0) (clear : P none)
       (followed_reads f rest (read_rest-each left (at + 9) (f.number + 1) (drop 9 s)))
       (fault-each (suc left) at least s))
 
-reads_numbers : (s : List ℕ) → ReadsBy Numbers (notice.read_facts s)
+reads_numbers : (s : List ℕ) → ReadsBy Published (notice.read_facts s)
 reads_numbers s =
-    read_rest-each Numbers numbers-none (λ at. numbers-refused SHORT at tt) (λ at. numbers-refused TAG at tt)
+    read_rest-each Published numbers-none (λ at. numbers-refused SHORT at tt) (λ at. numbers-refused TAG at tt)
     (λ at. numbers-refused LEN at tt) (λ at. numbers-refused RISE at tt) (λ at. numbers-refused FACTS at tt) 32 0 0 s
 
 abbrev pub Notices : Noticed → Type 0
 Notices x = Replied (λ (x : Noticed). x.refusal) refuse_noticed x
 
-noticed-notices : (x : notice.Reading) → ReadsBy Numbers x → Notices (notice.noticed x)
+noticed-notices : (x : notice.Reading) → ReadsBy Published x → Notices (notice.noticed x)
 noticed-notices (notice.facts fs) h =
     replied_success (λ (x : Noticed). x.refusal) refuse_noticed (record { refusal = none; facts = length fs }) refl
 noticed-notices (notice.refused r) h = replied_refuse (λ (x : Noticed). x.refusal) refuse_noticed (λ r. refl) r h
@@ -81,17 +79,17 @@ pub notice_of-notices : (s : List ℕ) → Notices (notice.notice_of s)
 notice_of-notices s = noticed-notices (notice.read_facts s) (reads_numbers s)
 
 -- voices: what holds of the four refusals holds of every one
-abbrev MakesBy : {A : Type 0} → (Refusal → Type 0) → Read A → Type 0
+abbrev MakesBy : {A : Type 0} → (Numbers → Type 0) → Read A → Type 0
 MakesBy R (made a next) = Unit {0}
 MakesBy R (refused r) = R r
 
-then_makes : {A B : Type 0} (R : Refusal → Type 0) (x : Read A) (onward : A → ℕ → Read B) → MakesBy R x →
+then_makes : {A B : Type 0} (R : Numbers → Type 0) (x : Read A) (onward : A → ℕ → Read B) → MakesBy R x →
     ((a : A) (next : ℕ) → MakesBy R (onward a next)) →
     MakesBy R (and_then x onward)
 then_makes R (made a next) onward h k = k a next
 then_makes R (refused r) onward h k = h
 
-module _ (R : Refusal → Type 0) (code : (at : ℕ) → R (refusal.refused CODE at)) (short : (at : ℕ) → R (refusal.refused CUT at))
+module _ (R : Numbers → Type 0) (code : (at : ℕ) → R (refusal.refused CODE at)) (short : (at : ℕ) → R (refusal.refused CUT at))
     (nest : (at : ℕ) → R (refusal.refused NEST at)) (tail : (at : ℕ) → R (refusal.refused TAIL at)) where
   module _ (policy : ℕ → Read Policy) (test : ℕ → Read Test) (p : (i : ℕ) → MakesBy R (policy i)) (t : (i : ℕ) → MakesBy R (test i)) where
     policy_by_makes : (at : ℕ) (kind : PolicyKind) → MakesBy R (policy_by policy test at kind)
@@ -142,7 +140,7 @@ read_voice_makes = read_voice-each Refuses (λ at. (tt, refl)) (λ at. (tt, refl
 abbrev pub Hears : Heard → Type 0
 Hears x = Replied (λ (x : Heard). x.refusal) unheard x
 
-heard_hears : (x : notice.Reading) (y : Read Policy) → ReadsBy Numbers x → Makes y → Hears (heard x y)
+heard_hears : (x : notice.Reading) (y : Read Policy) → ReadsBy Published x → Makes y → Hears (heard x y)
 heard_hears (notice.refused r) y h k = replied_refuse (λ (x : Heard). x.refusal) unheard (λ r. refl) r h
 heard_hears (notice.facts fs) (refused r) h k =
     replied_refuse (λ (x : Heard). x.refusal) unheard (λ r. refl) r (refuses_numbers r k)
@@ -160,7 +158,7 @@ pub speak_of-answers : (n v : List ℕ) → Answers (speak_of n v)
 speak_of-answers n v = received-answers (hear_of n v) (hear_of_hears n v)
 
 -- which numbers these are
-abbrev Spoken : Refusal → Type 0
+abbrev Spoken : Numbers → Type 0
 Spoken r = dec.T (spoken r.number)
 
 heard-spoken : (x : notice.Reading) (y : Read Policy) → ReadsBy Spoken x → MakesBy Spoken y → Spoken (heard x y).refusal

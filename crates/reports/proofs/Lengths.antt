@@ -9,7 +9,7 @@ use lib.Seq.{sets-eq, take-append_seam}
 use borrow.Author.Tests.{ltb-true, ltb-false}
 use native.Mathlib.Nat.{min-eq_right}
 use native.Mathlib.Omega.{arith}
-use Rattle.refusals.specs.declared.Refusal.{Refusal}
+use Rattle.refusals.specs.Meaning.{Numbers}
 use Rattle.text.specs.Meaning.{Printed, refusal_line, SPACE, LINE_FEED, number_text, refused_word}
 use Rattle.text.proofs.Decimals.{number_text-below, number_text-length}
 use Rattle.counts.specs.declared.Counts.{Counts}
@@ -56,7 +56,7 @@ record_length name c e =
       number_text-length c.refused LINE_FEED,
     ))
 
-pub batch_length : (r : Refusal) → length (batch_line r) ≤ 77
+pub batch_length : (r : Numbers) → length (batch_line r) ≤ 77
 unfolding batch_line refusal_line
 batch_length r =
     simp length-append

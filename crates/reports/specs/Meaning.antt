@@ -1,6 +1,6 @@
 -- What `weekcount` prints: a voice's record, and why the batch was refused.
 use Rattle.std.specs.Prelude.{ℕ, suc, ◌^◌, ◌<◌, ◌≡◌, cond, List, [], ◌∷◌, ◌++◌, eqb, length}
-use Rattle.refusals.specs.declared.Refusal.{Refusal}
+use Rattle.refusals.specs.Meaning.{Numbers}
 use Rattle.text.specs.Meaning.{SPACE, LINE_FEED, number_text, line, refused_word, refusal_line}
 use Rattle.counts.specs.declared.Counts.{Counts}
 
@@ -50,7 +50,7 @@ unfoldable pub record_text : List ℕ → Counts → List ℕ
 record_text name c = name_line name ++ total_lines c ++ number_lines 0 c.numbers
 
 -- "a batch refusal prints `batch refused NUMBER PLACE SECOND` after the counts so far"
-unfoldable pub batch_line : Refusal → List ℕ
+unfoldable pub batch_line : Numbers → List ℕ
 batch_line r = batch_word ++ refusal_line r
 
 -- Counts as they are held: 32 places, and every count a number of 64 bits.

@@ -5,8 +5,7 @@ use mathlib.Core.Bool.{Bool, true, false}
 use mathlib.Core.List.{List}
 use native.Mathlib.Numerals.{add-one}
 use native.Mathlib.Omega.{arith}
-use Rattle.refusals.specs.Meaning.{none, first_refusal, OVERLAP}
-use Rattle.refusals.specs.declared.Refusal.{Refusal}
+use Rattle.refusals.specs.Meaning.{Numbers, none, first_refusal, OVERLAP}
 use Rattle.refusals.proofs.First.{first_next, first_stays}
 use Rattle.rows.specs.Meaning.{row_bytes, row_of, disagree, pair_fault, overlap_of, overlap_in, disagree_at}
 use Rattle.rows.specs.Inside.{Below, Pairs}
@@ -21,11 +20,11 @@ pub disagree_at-is :
 unfolding disagree_at
 disagree_at-is n rows later earlier p q e f g = rw (← e, ← f) g
 
-pub pairs_start : (bad : ℕ → ℕ → Bool) (rows : ℕ) {found : Refusal} → found ≡ none → Pairs bad rows found 0
+pub pairs_start : (bad : ℕ → ℕ → Bool) (rows : ℕ) {found : Numbers} → found ≡ none → Pairs bad rows found 0
 unfolding overlap_in first_refusal
 pairs_start bad rows e = record { inside = omega arith; clear = refl; not_found = e }
 
-module _ (bad : ℕ → ℕ → Bool) (rows later : ℕ) {found : Refusal} where
+module _ (bad : ℕ → ℕ → Bool) (rows later : ℕ) {found : Numbers} where
   pub below-start : Pairs bad rows found later → Below bad later found 0
   unfolding first_refusal
   below-start w = record { inside = omega arith; clear = refl; not_found = w.not_found }
@@ -49,7 +48,7 @@ module _ (bad : ℕ → ℕ → Bool) (rows later : ℕ) {found : Refusal} where
         record { number = OVERLAP; place = later; second = earlier } ≡ overlap_in bad count
     unfolding overlap_in overlap_of
     pairs_hit w k l f same =
-        let pair : Refusal = record { number = OVERLAP; place = later; second = earlier } in
+        let pair : Numbers = record { number = OVERLAP; place = later; second = earlier } in
         let here : first_refusal (pair_fault bad later) (suc earlier) ≡ pair =
         first_next (pair_fault bad later) earlier v.clear ∙ (rw (← e, f)) in
         let row : overlap_of bad later ≡ pair =
@@ -72,13 +71,3 @@ module _ (bad : ℕ → ℕ → Bool) (rows later : ℕ) {found : Refusal} where
         clear = rw add-one (first_next (overlap_of bad) later w.clear ∙ (rw same at v.clear));
         not_found = w.not_found;
       }
-
-pub pairs-all :
-    (bad : ℕ → ℕ → Bool) (rows later : ℕ) {found : Refusal} {count : ℕ} →
-    Pairs bad rows found later →
-    rows ≤ later →
-    rows ≡ count →
-    found ≡ overlap_in bad count
-pairs-all bad rows later w l e =
-    let same : later ≡ rows = let i = w.inside in omega arith in
-    w.not_found ∙ sym (rw (same, e) at w.clear)

@@ -2,20 +2,15 @@
 use Prim.Native.Nat.{ℕ, suc, ◌+◌, ◌-◌, ◌*◌, ◌/◌, ◌≤◌, ◌<◌}
 use mathlib.Core.Path.{◌≡◌, refl, sym}
 use mathlib.Core.Bool.{Bool, true, false, cond}
-use mathlib.Core.List.{List, [], ◌∷◌}
+use mathlib.Core.List.{List, []}
 use lib.Dec.{ltb}
 use lib.ListN.{length, take, drop, length-take, length-drop}
 use borrow.Author.Tests.{lt-ltb, le-ltb, ltb-true, ltb-false}
 use native.Mathlib.Nat.{add-sub_cancel_left, mul-le-mul_right, suc-mul, zero-div, div-eq-sub-div, div-mul-le_self}
 use native.Mathlib.Omega.{arith}
-use Rattle.answers.specs.declared.Answer.TheVariants.{Silent}
-use Rattle.rows.specs.Meaning.{row_width, row_count, row_bytes, cell_bytes, outcome_of}
+use Rattle.rows.specs.Meaning.{row_width, row_count, row_bytes, cell_bytes}
 
 module _ (n : ℕ) (rows : List ℕ) where
-  pub row_count-wide : 6 < n → 0 ≡ row_count n rows
-  unfolding row_count
-  row_count-wide h = rw (lt-ltb 6 n h)
-
   pub row_count-is : n ≤ 6 → length rows / row_width n ≡ row_count n rows
   unfolding row_count
   row_count-is h = rw (le-ltb 6 n h)
@@ -50,10 +45,6 @@ module _ (n : ℕ) (rows : List ℕ) where
       rw (le-ltb 6 n few, length-drop, div-eq-sub-div (omega arith) long)
       (omega arith)
 
-  pub row_bytes-none : (i k : ℕ) → k ≡ row_count n rows → k ≤ i → take 0 rows ≡ row_bytes n rows i
-  unfolding row_bytes
-  row_bytes-none i k e l = rw (← e, le-ltb i k l)
-
   pub row_bytes-take : (i : ℕ) → i < row_count n rows → row_bytes n rows i ≡ take (row_width n) (drop (i * row_width n) rows)
   unfolding row_bytes
   row_bytes-take i l = rw (lt-ltb i (row_count n rows) l)
@@ -67,33 +58,11 @@ module _ (n : ℕ) (rows : List ℕ) where
       go true e = let few = row_count-columns i (ltb-true i (row_count n rows) e) in simp length-take (omega arith)
       go false e = omega arith
 
--- the same with the count as it was found
-module _ (n : ℕ) (rows : List ℕ) (i k : ℕ) (e : k ≡ row_count n rows) (l : i < k) where
-  inside : i < row_count n rows
-  inside = rw e at l
-
-  pub row-columns : n ≤ 6
-  row-columns = row_count-columns n rows i inside
-
-  pub row-end : i * row_width n + row_width n ≤ length rows
-  row-end = row_count-end n rows i inside
-
-  pub row_bytes_part : take (i * row_width n + row_width n - i * row_width n) (drop (i * row_width n) rows) ≡ row_bytes n rows i
-  row_bytes_part = rw add-sub_cancel_left (sym (row_bytes-take n rows i inside))
-
-pub cell_bytes-none : (b : List ℕ) → length b < 4 → take 0 b ≡ cell_bytes b
-cell_bytes-none b h =
-    let e : length b - 4 ≡ 0 = omega arith in
-    rw e
-
-pub cell_bytes_part : (b : List ℕ) → 4 ≤ length b → take (length b - 1 - 3) (drop 3 b) ≡ cell_bytes b
-cell_bytes_part b h =
-    let e : length b - 1 - 3 ≡ length b - 4 = omega arith in
-    rw e
+  pub row_bytes_part :
+      (i : ℕ) →
+      i < row_count n rows →
+      take (i * row_width n + row_width n - i * row_width n) (drop (i * row_width n) rows) ≡ row_bytes n rows i
+  row_bytes_part i l = rw add-sub_cancel_left (sym (row_bytes-take i l))
 
 pub cell_bytes-few : (b : List ℕ) → length b ≤ 10 → length (cell_bytes b) ≤ 6
 cell_bytes-few b h = simp length-take (omega arith)
-
-pub outcome_of-none : (b : List ℕ) → length b ≡ 0 → Silent ≡ outcome_of b
-outcome_of-none [] h = refl
-outcome_of-none (x ∷ b) h = absurd (omega arith)

@@ -1,7 +1,6 @@
 -- Rows: what one is, which situations it matches, its bytes, the rows that a part of a table holds, and which two disagree.
 use Rattle.std.specs.Prelude.{ℕ, zero, suc, ◌+◌, ◌-◌, ◌*◌, ◌/◌, ◌≡◌, Bool, true, false, cond, not, ◌&&◌, List, [], ◌∷◌, ◌++◌, map, T, ltb, eqb, length, take, drop, get_or}
-use Rattle.refusals.specs.Meaning.{none, first_refusal, OVERLAP}
-use Rattle.refusals.specs.declared.Refusal.{Refusal}
+use Rattle.refusals.specs.Meaning.{Numbers, none, first_refusal, OVERLAP}
 use Rattle.fields.specs.Meaning.{field}
 use Rattle.answers.specs.Meaning.{number, from_number}
 use Rattle.answers.specs.declared.Answer.{Answer}
@@ -109,17 +108,17 @@ abbrev pub disagree : Row → Row → Bool
 disagree p q = overlap p.cells q.cells && not (eqb (number p.outcome) (number q.outcome))
 
 -- "The search of pairs stops at the first such pair": later rows from the first on, and for each the earlier ones.
-abbrev pub pair_fault : (ℕ → ℕ → Bool) → ℕ → ℕ → Refusal
+abbrev pub pair_fault : (ℕ → ℕ → Bool) → ℕ → ℕ → Numbers
 pair_fault bad later earlier = cond (bad later earlier) (record { number = OVERLAP; place = later; second = earlier }) none
 
-unfoldable pub overlap_of : (ℕ → ℕ → Bool) → ℕ → Refusal
+unfoldable pub overlap_of : (ℕ → ℕ → Bool) → ℕ → Numbers
 overlap_of bad later = first_refusal (pair_fault bad later) later
 
-unfoldable pub overlap_in : (ℕ → ℕ → Bool) → ℕ → Refusal
+unfoldable pub overlap_in : (ℕ → ℕ → Bool) → ℕ → Numbers
 overlap_in bad rows = first_refusal (overlap_of bad) rows
 
 unfoldable pub disagree_at : ℕ → List ℕ → ℕ → ℕ → Bool
 disagree_at n rows later earlier = disagree (row_of (row_bytes n rows later)) (row_of (row_bytes n rows earlier))
 
-abbrev pub first_overlap : ℕ → List ℕ → Refusal
+abbrev pub first_overlap : ℕ → List ℕ → Numbers
 first_overlap n rows = overlap_in (disagree_at n rows) (row_count n rows)

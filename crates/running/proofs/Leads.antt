@@ -1,6 +1,6 @@
 -- Where nodes lead. Pieces that lead from one stack to another are put together (leads_append) and answer (leads_answer);
 -- each node leads somewhere (leads_constant to leads_join), for every stack that leaves room.
-use Prim.Native.Nat.{ℕ, suc, ◌+◌, ◌-◌, ◌<◌}
+use Prim.Native.Nat.{ℕ, suc, ◌+◌, ◌<◌}
 use mathlib.Core.Path.{◌≡◌, refl}
 use mathlib.Core.Bool.{true}
 use mathlib.Core.List.{List, [], ◌∷◌, ◌++◌}
@@ -16,7 +16,7 @@ use Rattle.nodes.specs.declared.Node.{Node}
 use Rattle.nodes.specs.declared.Node.TheVariants.{Constant, Negate, Turn, Meet, Join, Column}
 use Rattle.nodes.specs.declared.Profile.{Profile}
 use Rattle.nodes.specs.Meaning.{node_of, climb, act, finish, run}
-use Rattle.nodes.proofs.Decoding.{is-column}
+use Rattle.std.proofs.lemmas.Bool.Decides.{nat_tests}
 
 -- The nodes lead from one stack to another: none of them is refused.
 pub data LeadsBy (profile : Profile) (s : List Answer) : List ℕ → List Answer → List Answer → Type 0 where
@@ -71,6 +71,9 @@ leads_one b node stack {end} n e f = onto {b = b} {nodes = []} {stack = stack} {
 node_constant : (a : Answer) → node_of (number a) ≡ Constant a
 node_constant = each _ (search refl)
 
+node_column : (k : ℕ) → k < 6 → node_of (16 + k) ≡ Column k
+node_column k l = grind (arith, nat_tests)
+
 module _ {profile : Profile} {s : List Answer} {stack : List Answer} where
   pub leads_constant : (a : Answer) → length stack < profile.places → LeadsBy profile s (number a ∷ []) stack (a ∷ stack)
   unfolding climb act
@@ -80,8 +83,7 @@ module _ {profile : Profile} {s : List Answer} {stack : List Answer} where
       (k : ℕ) → k < 6 → k < length s → length stack < profile.places → LeadsBy profile s ((16 + k) ∷ []) stack (get_or s k Silent ∷ stack)
   unfolding climb act
   leads_column k six i l =
-      let e : 16 + k - 16 ≡ k = omega arith in
-      leads_one (16 + k) (Column k) stack (rw (← is-column (16 + k) refl (omega arith) (omega arith), e))
+      leads_one (16 + k) (Column k) stack (node_column k six)
       (rw (lt-ltb k (length s) i, lt-ltb (length stack) profile.places l))
       refl
 

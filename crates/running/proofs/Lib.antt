@@ -4,3 +4,4 @@ pub mod Parts
 pub mod Leads
 pub mod Places
 pub mod Turning
+pub mod Placed

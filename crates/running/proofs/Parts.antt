@@ -8,17 +8,16 @@ use lib.ListN.{length}
 use borrow.Author.Tests.{eqb-true}
 use native.Mathlib.Nat.{add-zero}
 use native.Mathlib.Omega.{arith}
-use Rattle.refusals.specs.Meaning.{none, refused, after}
-use Rattle.refusals.specs.declared.Refusal.{Refusal}
+use Rattle.refusals.specs.Meaning.{Numbers, none, refused, after}
 use Rattle.answers.specs.declared.Answer.{Answer}
 use Rattle.answers.specs.declared.Answer.TheVariants.{Silent}
-use Rattle.answers.specs.declared.Reply.{Reply}
+use Rattle.answers.specs.Meaning.{Reply}
 use Rattle.nodes.specs.declared.Profile.{Profile}
 use Rattle.nodes.specs.Meaning.{node_of, climb, act, reply_after, run}
 use Rattle.running.proofs.Heights.{act_height}
 
 -- The refusal of a part of an array, which need not leave one answer ..
-unfoldable pub part_fault : Profile → ℕ → ℕ → ℕ → List ℕ → Refusal
+unfoldable pub part_fault : Profile → ℕ → ℕ → ℕ → List ℕ → Numbers
 part_fault profile n place height [] = none
 part_fault profile n place height (b ∷ nodes) =
     after (refused (climb profile n (node_of b) height).fault place) (λ r. r)

@@ -10,7 +10,7 @@ use native.Mathlib.Omega.{arith}
 use Rattle.refusals.specs.Meaning.{refused, COLUMN, DEEP}
 use Rattle.answers.specs.declared.Answer.{Answer}
 use Rattle.answers.specs.declared.Answer.TheVariants.{Silent}
-use Rattle.answers.specs.declared.Reply.{Reply}
+use Rattle.answers.specs.Meaning.{Reply}
 use Rattle.nodes.specs.declared.Node.{Node}
 use Rattle.nodes.specs.declared.Node.TheVariants.{Constant, Negate, Turn, Meet, Join, Column, Foreign}
 use Rattle.nodes.specs.declared.Profile.{Profile}

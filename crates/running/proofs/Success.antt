@@ -6,12 +6,10 @@ use mathlib.Core.List.{List, [], ◌∷◌}
 use lib.Dec.{eqb}
 use lib.ListN.{length, get_or}
 use borrow.Author.Tests.{eqb-false}
-use Rattle.refusals.specs.Meaning.{refused}
-use Rattle.refusals.specs.declared.Refusal.{Refusal}
-use Rattle.answers.specs.Meaning.{succeed}
+use Rattle.refusals.specs.Meaning.{Numbers, refused}
+use Rattle.answers.specs.Meaning.{Reply, succeed}
 use Rattle.answers.specs.declared.Answer.{Answer}
 use Rattle.answers.specs.declared.Answer.TheVariants.{Silent}
-use Rattle.answers.specs.declared.Reply.{Reply}
 use Rattle.situations.specs.Meaning.{fault, answers_of}
 use Rattle.nodes.specs.declared.Profile.{Profile}
 use Rattle.nodes.specs.Meaning.{node_of, full, climb, act, end_fault, reply_after, run, evaluate_of}
@@ -19,7 +17,7 @@ use Rattle.nodes.specs.Meaning.{node_of, full, climb, act, end_fault, reply_afte
 abbrev Fine : Reply → Type 0
 Fine r = r.refusal.number ≡ 0 → r ≡ succeed r.answer
 
-after-fine : (check : Refusal) (reply : Reply) → Fine reply → Fine (reply_after check reply)
+after-fine : (check : Numbers) (reply : Reply) → Fine reply → Fine (reply_after check reply)
 after-fine check reply h = go (eqb check.number 0) refl
   where
     go : (t : Bool) → eqb check.number 0 ≡ t → Fine (cond t reply (record { refusal = check; answer = Silent }))

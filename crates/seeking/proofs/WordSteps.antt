@@ -1,60 +1,40 @@
 -- A word from which no step fails: every answer in it is contained in the answer after each step.
 use Prim.Native.Nat.{ℕ, zero, suc, ◌+◌, ◌-◌, ◌*◌, ◌/◌, ◌%◌, ◌^◌, ◌≤◌, ◌<◌}
 use mathlib.Core.Path.{◌≡◌, refl, ap, sym, ◌∙◌}
-use mathlib.Core.Bool.{Bool, true, false, cond}
-use mathlib.Core.Logic.{⊎_elim}
+use mathlib.Core.Bool.{Bool, true, false, cond, not}
 use mathlib.Core.List.{List}
 use lib.Dec.{eqb}
 use lib.Pow.{pow-add}
 use lib.Bits.{bit_and, bit_or, bit_xor, or_lt, or_add_and, and_le_l, and_le_r}
-use lib.ListN.{get_or}
+use lib.ListN.{length, get_or}
 use borrow.Author.Tests.{eqb-true}
-use native.Mathlib.Nat.{eq-or-lt_of_le, div-div-eq-div-mul, mul_comm}
+use native.Mathlib.Nat.{div-div-eq-div-mul, mul_comm, zero-add}
 use native.Mathlib.Omega.{arith}
+use Rattle.std.specs.Bool.{MatchBool, OnFalse}
+use Rattle.std.specs.List.{AllWithin, range_with_len}
+use Rattle.std.proofs.lemmas.List.FromFn.{length-range_with_len, get_or-range_with_len}
 use Rattle.words.specs.Meaning.{bit, ones}
 use Rattle.words.proofs.Bits.{bit-and, bit-xor, bit-ones, bit-none, Both, each-bit, each_two, all_below, tested}
 use Rattle.answers.specs.Meaning.{from_number, contained}
 use Rattle.steps.specs.Inside.{held, grown}
 use Rattle.steps.proofs.SetBit.{set-clear, set_stays}
-use Rattle.seeking.specs.Inside.{Clear, lost, Within, Tried, Kept, Sifted, Sifting}
+use Rattle.seeking.specs.declared.sifting.TheConstants.{CLEAR}
+use Rattle.seeking.specs.Inside.{Clear, lost, Within, Tried, Kept, Sifted}
 use Rattle.seeking.proofs.LaneBits.{power_small, set-low, set-high}
 
 -- the masks
 mask : (k r : ℕ) → all_below 64 (λ x. eqb (bit x r + bit k x) 1) ≡ true → Clear k r
 mask k r e = record { opens = λ x l. eqb-true (bit x r + bit k x) 1 (tested (λ x. eqb (bit x r + bit k x) 1) 64 e x l) }
 
-module _ (k : ℕ) where
-  pub clear_0 : k ≡ 0 → Clear k 6148914691236517205
-  unfolding all_below
-  clear_0 e = rw e (mask 0 6148914691236517205 refl)
-
-  pub clear_1 : k ≡ 1 → Clear k 3689348814741910323
-  unfolding all_below
-  clear_1 e = rw e (mask 1 3689348814741910323 refl)
-
-  pub clear_2 : k ≡ 2 → Clear k 1085102592571150095
-  unfolding all_below
-  clear_2 e = rw e (mask 2 1085102592571150095 refl)
-
-  pub clear_3 : k ≡ 3 → Clear k 71777214294589695
-  unfolding all_below
-  clear_3 e = rw e (mask 3 71777214294589695 refl)
-
-  pub clear_4 : k ≡ 4 → Clear k 281470681808895
-  unfolding all_below
-  clear_4 e = rw e (mask 4 281470681808895 refl)
-
-  pub clear_5 : k < 6 → (k ≡ 0 → ⊥) → (k ≡ 1 → ⊥) → (k ≡ 2 → ⊥) → (k ≡ 3 → ⊥) → (k ≡ 4 → ⊥) → Clear k 4294967295
-  unfolding all_below
-  clear_5 l a b c d e = rw (last k l a b c d e) (mask 5 4294967295 refl)
-    where
-      last : (k : ℕ) → k < 6 → (k ≡ 0 → ⊥) → (k ≡ 1 → ⊥) → (k ≡ 2 → ⊥) → (k ≡ 3 → ⊥) → (k ≡ 4 → ⊥) → k ≡ 5
-      last zero l a b c d e = absurd (a refl)
-      last (suc zero) l a b c d e = absurd (b refl)
-      last (suc (suc zero)) l a b c d e = absurd (c refl)
-      last (suc (suc (suc zero))) l a b c d e = absurd (d refl)
-      last (suc (suc (suc (suc zero)))) l a b c d e = absurd (e refl)
-      last (suc (suc (suc (suc (suc k))))) l a b c d e = omega arith
+pub clear_is : (k : ℕ) → k < 6 → Clear k (get_or CLEAR k 0)
+unfolding all_below
+clear_is zero l = mask 0 6148914691236517205 refl
+clear_is (suc zero) l = mask 1 3689348814741910323 refl
+clear_is (suc (suc zero)) l = mask 2 1085102592571150095 refl
+clear_is (suc (suc (suc zero))) l = mask 3 71777214294589695 refl
+clear_is (suc (suc (suc (suc zero)))) l = mask 4 281470681808895 refl
+clear_is (suc (suc (suc (suc (suc zero))))) l = mask 5 4294967295 refl
+clear_is (suc (suc (suc (suc (suc (suc k)))))) l = absurd (omega arith)
 
 -- where a bit is lost
 lost_at : (x b a : ℕ) → x < 64 → bit x (bit_and b (bit_xor a ones)) ≡ lost (bit x b) (bit x a)
@@ -168,29 +148,26 @@ module _ (bury keep : List ℕ) where
       (rw (e, f) at
       (told (v % 64) (get_or bury (v / 64) 0) (get_or keep (v / 64) 0) (w % 64) (get_or bury (w / 64) 0) (get_or keep (w / 64) 0)))
 
-  -- bit after bit
-  module _ (n word : ℕ) where
-    pub sifting_none : Sifting bury keep n word 0
-    sifting_none = record { counted = omega arith; passed = λ j l. absurd (omega (arith, l)) }
-
-    pub sifted_fails : Sifted bury keep n word true
-    sifted_fails = record { passed = λ e. absurd (never e) }
-      where
-        never : true ≡ false → ⊥
-        never e = let z : ◌≡◌ {A = ℕ} 0 1 = cc in omega arith
-
-    module _ (k : ℕ) (s : Sifting bury keep n word k) where
-      pub sifting_more :
-          {a b : ℕ} → k < 2 * n → Tried bury word k a → Tried keep word k b → bit_or a b ≡ 0 → Sifting bury keep n word (k + 1)
-      sifting_more {a} {b} l t u e =
+  pub kept_at :
+      (word k : ℕ) {a b : ℕ} → Tried bury word k a → Tried keep word k b → OnFalse (not (eqb (bit_or a b) 0)) (Kept bury keep word k)
+  kept_at word k {a} {b} t u = go (eqb (bit_or a b) 0) refl
+    where
+      go : (s : Bool) → eqb (bit_or a b) 0 ≡ s → OnFalse (not s) (Kept bury keep word k)
+      go true e =
+          let z : bit_or a b ≡ 0 = eqb-true (bit_or a b) 0 e in
           let p : a ≡ 0 = omega (arith, or_add_and a b, and_le_r a b) in
           let q : b ≡ 0 = omega (arith, or_add_and a b, and_le_l a b) in
-          let now : Kept bury keep word k =
-          record { kept = λ x h. kept_both (word * 64 + x) (bit_or (word * 64 + x) (2 ^ k)) (t.passed p x h) (u.passed q x h) } in
-          record {
-            counted = omega arith;
-            passed = λ j m. ⊎_elim (λ i. rw i now) (λ i. s.passed j i) (eq-or-lt_of_le {n = j} {m = k} (omega (arith, m)));
-          }
+          record { kept = λ x h. kept_both (word * 64 + x) (bit_or (word * 64 + x) (2 ^ k)) (t.passed p x h) (u.passed q x h) }
+      go false e = tt
 
-      pub sifting_all : 2 * n ≤ k → Sifted bury keep n word false
-      sifting_all l = record { passed = λ e j m. s.passed j (omega (arith, m)) }
+  -- bit after bit
+  pub sifted :
+      (n word : ℕ) {r : Bool} (P : Type 0) →
+      MatchBool r P (AllWithin (Kept bury keep word) (range_with_len 0 (2 * n)) 0 (length (range_with_len 0 (2 * n)))) →
+      Sifted bury keep n word r
+  sifted n word {r} P m =
+      record {
+        passed = λ e k l.
+            let all : AllWithin (Kept bury keep word) (range_with_len 0 (2 * n)) 0 (length (range_with_len 0 (2 * n))) = rw e at m in
+            rw (get_or-range_with_len 0 (2 * n) k 0 l, zero-add) at (all k 0 (omega arith) (rw (length-range_with_len 0 (2 * n)) l));
+      }

@@ -1,13 +1,12 @@
 -- What the private functions and their loops say among themselves. Nothing here has to be believed: the laws tie it to the meaning.
-use Rattle.std.specs.Prelude.{ℕ, ◌+◌, ◌*◌, ◌%◌, ◌^◌, ◌≤◌, ◌<◌, ◌≡◌, Bool, true, false, List}
+use Rattle.std.specs.Prelude.{ℕ, ◌+◌, ◌*◌, ◌^◌, ◌<◌, ◌≡◌, Bool, true, false, List}
 use Rattle.std.specs.Int.Bits.{bit_and, bit_or, bit_xor}
 use Rattle.words.specs.Meaning.{bit}
 use Rattle.steps.specs.Inside.{held, grown}
 
--- a search has come to the word that starts at k, and none before passes the test
-pub record Seeking (test : ℕ → Bool) (total k : ℕ) : Type 0 where
-  pub aligned : k % 64 ≡ 0
-  pub none : (j : ℕ) → j < k → j < total → test j ≡ false
+-- a search has come to a word, and none before passes the test
+pub record Seeking (test : ℕ → Bool) (total word : ℕ) : Type 0 where
+  pub none : (j : ℕ) → j < word * 64 → j < total → test j ≡ false
 
 -- the lanes of a word that have 0 in bit k of their number
 pub record Clear (k r : ℕ) : Type 0 where
@@ -32,7 +31,3 @@ pub record Kept (bury keep : List ℕ) (word k : ℕ) : Type 0 where
 -- no step loses an answer of this word, where it is said not to fail
 pub record Sifted (bury keep : List ℕ) (n word : ℕ) (r : Bool) : Type 0 where
   pub passed : r ≡ false → (k : ℕ) → k < 2 * n → Kept bury keep word k
-
-pub record Sifting (bury keep : List ℕ) (n word k : ℕ) : Type 0 where
-  pub counted : k ≤ 2 * n
-  pub passed : (j : ℕ) → j < k → Kept bury keep word j

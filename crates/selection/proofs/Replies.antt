@@ -10,9 +10,8 @@ use borrow.Author.Tests.{le-ltb, eq-eqb, eqb-true, eqb-false, ltb-false}
 use native.Mathlib.Omega.{arith}
 use Rattle.refusals.specs.Meaning.{none, refused, ROOM}
 use Rattle.tables.specs.Meaning.{read_of, table_of}
-use Rattle.compiler.specs.declared.Compiled.{Compiled}
 use Rattle.formula.specs.Meaning.{table_nodes, table_size}
-use Rattle.compiler.specs.Meaning.{refuse_compiled, compile_of, written_of}
+use Rattle.compiler.specs.Meaning.{Compiled, refuse_compiled, compile_of, written_of}
 use Rattle.formula.proofs.Sizes.{table_size_lem}
 
 -- the reply for a table that is read and fits, and for any by whether it is read and whether the room is too short

@@ -1,2 +1,2 @@
-pub mod Parts
 pub mod Whole
+pub mod Silence

@@ -1,5 +1,5 @@
 -- A selector as it is written: its first column and turns, its second ones, its ending; and that it is the formula's.
-use Prim.Native.Nat.{ℕ, zero, suc, ◌+◌, ◌-◌, ◌%◌, ◌≤◌, ◌<◌}
+use Prim.Native.Nat.{ℕ, zero, suc, ◌+◌, ◌-◌, ◌≤◌, ◌<◌}
 use mathlib.Core.Path.{◌≡◌, refl, ap, sym, ◌∙◌}
 use mathlib.Core.List.{List, ◌++◌, append_assoc}
 use lib.ListN.{length, length-append}
@@ -15,7 +15,6 @@ use Rattle.formula.proofs.Sizes.{turned-size}
 use Rattle.selectors.specs.Inside.{second_turns, ending, selector_with, size_with}
 
 second-few : (j : Answer) {k r : ℕ} → k ≤ 3 → r ≡ second_turns k j → r ≤ 3
-unfolding second_turns
 second-few Silent l e = omega arith
 second-few Bury l e = omega arith
 second-few Keep l e = omega arith
@@ -73,8 +72,8 @@ module _
     whole-written u = wrote_then v (wrote_then (rw g at w) u)
 
 -- it is the formula's
-selector_parts : (column : ℕ) (a j : Answer) → (number j ≡ 0 → ⊥) → selector column a j ≡ selector_with column (3 - number a) j
-unfolding selector selector_with second_turns ending
+selector_parts : (column : ℕ) (a j : Answer) → (j ≡ Silent → ⊥) → selector column a j ≡ selector_with column (3 - number a) j
+unfolding selector selector_with
 selector_parts column a Silent h = absurd (h refl)
 selector_parts column a Bury h = append_assoc (turned column (3 - number a)) (turned column (second_turns (3 - number a) Bury)) (ending Bury)
 selector_parts column a Keep h = append_assoc (turned column (3 - number a)) (turned column (second_turns (3 - number a) Keep)) (ending Keep)
@@ -86,50 +85,35 @@ number_less (suc zero) = refl
 number_less (suc (suc zero)) = refl
 number_less (suc (suc (suc n))) = omega arith
 
-loud : (o : ℕ) → (o ≡ 0 → ⊥) → number (from_number o) ≡ 0 → ⊥
-loud zero h e = h refl
-loud (suc zero) h e = omega (arith, e)
-loud (suc (suc zero)) h e = omega (arith, e)
-loud (suc (suc (suc o))) h e = omega (arith, e)
+module _ (column cell o : ℕ) {j : Answer} (g : j ≡ from_number o) where
+  pub silent_written : j ≡ Silent → (b : List ℕ) (at : ℕ) → WroteWhole b at (selector column (from_number cell) (from_number o)) b at
+  unfolding selector
+  silent_written e b at = rw (← g, e) (placed-none b at)
 
-pub silent_written : (column cell o : ℕ) (b : List ℕ) (at : ℕ) → o ≡ 0 → WroteWhole b at (selector column (from_number cell) (from_number o)) b at
-unfolding selector
-silent_written column cell o b at e = rw e (placed-none b at)
+  module _ (h : j ≡ Silent → ⊥) {k n : ℕ} (e : k ≡ 3 - cell) (f : n ≡ size_with k j) where
+    selector-is : selector column (from_number cell) (from_number o) ≡ selector_with column k j
+    selector-is = rw (← g, e, ← number_less cell) (selector_parts column (from_number cell) j h)
 
-module _ (column cell o : ℕ) {k n : ℕ} (h : o ≡ 0 → ⊥) (e : k ≡ 3 - cell) (f : n ≡ size_with k (from_number o)) where
-  selector-is : selector column (from_number cell) (from_number o) ≡ selector_with column k (from_number o)
-  selector-is = rw (e, ← number_less cell) (selector_parts column (from_number cell) (from_number o) (loud o h))
+    selector-long : length (selector column (from_number cell) (from_number o)) ≡ n
+    selector-long = ap length selector-is ∙ with_size column k j ∙ sym f
 
-  selector-long : length (selector column (from_number cell) (from_number o)) ≡ n
-  selector-long = ap length selector-is ∙ with_size column k (from_number o) ∙ sym f
+    pub whole-within : (b : List ℕ) (at : ℕ) → at + n ≤ length b → at + length (selector_with column k j) ≤ length b
+    whole-within b at l = rw (← selector-is, selector-long) l
 
-  pub whole-within : (b : List ℕ) (at : ℕ) → at + n ≤ length b → at + length (selector_with column k (from_number o)) ≤ length b
-  whole-within b at l = rw (← selector-is, selector-long) l
+    pub selector-counted :
+        (b : List ℕ) (at : ℕ) →
+        length b < at + n →
+        WroteWhole b at (selector column (from_number cell) (from_number o)) b (at + n)
+    selector-counted b at l =
+        placed-counted b at (selector column (from_number cell) (from_number o)) (let long = selector-long in omega arith) l
 
-  pub selector-counted :
-      (b : List ℕ) (at : ℕ) →
-      length b < at + n →
-      WroteWhole b at (selector column (from_number cell) (from_number o)) b (at + n)
-  selector-counted b at l =
-      placed-counted b at (selector column (from_number cell) (from_number o)) (let long = selector-long in omega arith) l
-
-  pub selector-written :
-      {b c : List ℕ} {at r : ℕ} →
-      at + n ≤ length b →
-      Wrote b at (selector_with column k (from_number o)) c r →
-      WroteWhole b at (selector column (from_number cell) (from_number o)) c r
-  selector-written {r = r} l w =
-      let v = rw (← selector-is) at w in
-      let long = selector-long in
-      let ends = v.ends in
-      placed-written v (omega arith)
-
-size_few : (k : ℕ) (j : Answer) → k ≤ 3 → size_with k j ≤ 10
-unfolding second_turns ending
-size_few k Silent l = omega arith
-size_few k Bury l = omega arith
-size_few k Keep l = omega arith
-size_few k Clash l = omega arith
-
-pub end_fits : (at o cell : ℕ) {k n : ℕ} → n ≡ size_with k (from_number o) → k ≡ 3 - cell → at % 4294967296 + n < 18446744073709551616
-end_fits at o cell {k} f e = let few = size_few k (from_number o) (omega arith) in omega arith
+    pub selector-written :
+        {b c : List ℕ} {at r : ℕ} →
+        at + n ≤ length b →
+        Wrote b at (selector_with column k j) c r →
+        WroteWhole b at (selector column (from_number cell) (from_number o)) c r
+    selector-written {r = r} l w =
+        let v = rw (← selector-is) at w in
+        let long = selector-long in
+        let ends = v.ends in
+        placed-written v (omega arith)

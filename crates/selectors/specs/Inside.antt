@@ -5,13 +5,13 @@ use Rattle.answers.specs.declared.Answer.TheVariants.{Silent, Bury, Keep, Clash}
 use Rattle.formula.specs.Meaning.{turned}
 
 -- the parts of a selector: the turns of its second column, and what it ends with (nobody asks for silent)
-unfoldable pub second_turns : ℕ → Answer → ℕ
+abbrev pub second_turns : ℕ → Answer → ℕ
 second_turns k Silent = (k + 3) % 4
 second_turns k Bury = (k + 3) % 4
 second_turns k Keep = (k + 3) % 4
 second_turns k Clash = k
 
-unfoldable pub ending : Answer → List ℕ
+abbrev pub ending : Answer → List ℕ
 ending Silent = 6 ∷ 4 ∷ []
 ending Bury = 6 ∷ 4 ∷ []
 ending Keep = 6 ∷ []

@@ -3,7 +3,8 @@
 // It promises that the nodes of the selector stand from a place on if the buffer has room for all of them, that nothing is
 // written if it has not, and that no other byte changes. The place behind the selector is returned in any case, so over an
 // empty buffer selectors are only counted. It refuses nothing: a place counts modulo 4,294,967,296 and a column modulo 8, which is
-// more than any table has; a cell or an outcome above 3 counts as clash.
+// more than any table has; a cell or an outcome above 3 counts as clash. (The buffer and the place stay two parameters, since the
+// promise of `put_selector`, and that it determines both, names them so: `selectors_put_selector_determined`.)
 
 #![tactic(auto)]
 
@@ -14,12 +15,10 @@ ghost use Rattle.answers.specs.Meaning.{from_number};
 ghost use Rattle.formula.specs.Meaning.{turned, selector};
 ghost use Rattle.selectors.specs.Inside.{second_turns, ending, selector_with, size_with};
 
-const SILENT: u8 = 0;
+use answers::Answer;
 
-const KEEP: u8 = 2;
-
-const CLASH: u8 = 3;
-
+// Nodes are bytes here, as the document numbers them: an enum would only give them back, and what a byte means is said in `nodes`,
+// which stands above.
 const NEGATE: u8 = 4;
 
 const TURN: u8 = 5;
@@ -33,7 +32,8 @@ const COLUMNS: usize = 8;
 
 const PLACES: usize = 4294967296;
 
-// A column and so many turns, three at the most: stores one by one, since a loop costs more.
+// A column and so many turns, three at the most: stores one by one, since with a loop a table takes a quarter more instructions.
+#[tactic(auto, unfolding(formula::specs::Meaning::turned))]
 fn put_turned(nodes: &mut [u8], at: usize, column: usize, turns: usize) -> usize
     requires { (turns ≤ 3) × (at + 1 + turns ≤ length nodes.old) }
     ensures { Wrote nodes.old at (turned (column % 8) turns) nodes.new result }
@@ -55,83 +55,93 @@ fn put_turned(nodes: &mut [u8], at: usize, column: usize, turns: usize) -> usize
     end
 }
 
-// How many turns take a cell's answer to clash: 3 less its number.
+// How many turns take a cell's answer to clash: 3 less its number. A cell is a byte, as it stands in a table.
 fn turns_to_clash(cell: u8) -> usize
     ensures { result ≡ 3 - cell }
 {
-    if CLASH <= cell {
-        return 0;
-    }
-    (CLASH - cell) as usize
+    u8::from(Answer::Clash).saturating_sub(cell) as usize
 }
 
 // How many turns the second column of a selector gets, where the first gets k.
-fn second_turns(k: usize, outcome: u8) -> usize
+fn second_turns(k: usize, outcome: Answer) -> usize
     requires { k ≤ 3 }
-    ensures { result ≡ second_turns k (from_number outcome) }
+    ensures { result ≡ second_turns k outcome }
 {
-    if CLASH <= outcome {
-        return k;
+    match outcome {
+        Answer::Clash => k,
+        _ => (k + 3) % 4,
     }
-    (k + 3) % 4
+}
+
+// How many nodes stand behind its two columns.
+fn ending_size(outcome: Answer) -> usize
+    ensures { result ≡ length (ending outcome) }
+{
+    match outcome {
+        Answer::Keep => 1,
+        _ => 2,
+    }
 }
 
 // How many nodes a selector has, by the published sizes.
-fn selector_size(k: usize, outcome: u8) -> usize
+fn selector_size(k: usize, outcome: Answer) -> usize
     requires { k ≤ 3 }
-    ensures { result ≡ size_with k (from_number outcome) }
+    ensures { result ≡ size_with k outcome }
 {
-    if CLASH <= outcome {
+    if outcome == Answer::Clash {
         return 4 + 2 * k;
     }
-    let keep = 3 + k + (k + 3) % 4;
-    if outcome == KEEP {
-        return keep;
-    }
-    keep + 1
+    2 + k + (k + 3) % 4 + ending_size(outcome)
 }
 
 // What a selector ends with, behind its two columns.
-fn put_ending(nodes: &mut [u8], at: usize, outcome: u8) -> usize
-    requires { at + length (ending (from_number outcome)) ≤ length nodes.old }
-    ensures { Wrote nodes.old at (ending (from_number outcome)) nodes.new result }
+fn put_ending(nodes: &mut [u8], at: usize, outcome: Answer) -> usize
+    requires { at + length (ending outcome) ≤ length nodes.old }
+    ensures { Wrote nodes.old at (ending outcome) nodes.new result }
 {
-    if CLASH <= outcome {
-        nodes[at] = NEGATE;
-        nodes[at + 1] = MEET;
-        return at + 2;
+    match outcome {
+        Answer::Clash => {
+            nodes[at] = NEGATE;
+            nodes[at + 1] = MEET;
+            at + 2
+        }
+        Answer::Keep => {
+            nodes[at] = MEET;
+            at + 1
+        }
+        _ => {
+            nodes[at] = MEET;
+            nodes[at + 1] = NEGATE;
+            at + 2
+        }
     }
-    nodes[at] = MEET;
-    if outcome == KEEP {
-        return at + 1;
-    }
-    nodes[at + 1] = NEGATE;
-    at + 2
 }
 
 // A selector that there is room for: a column and its turns, twice, and the ending.
-fn put_whole(nodes: &mut [u8], at: usize, column: usize, k: usize, outcome: u8) -> usize
-    requires { (k ≤ 3) × (at + length (selector_with (column % 8) k (from_number outcome)) ≤ length nodes.old) }
-    ensures { Wrote nodes.old at (selector_with (column % 8) k (from_number outcome)) nodes.new result }
+fn put_whole(nodes: &mut [u8], at: usize, column: usize, k: usize, outcome: Answer) -> usize
+    requires { (k ≤ 3) × (at + length (selector_with (column % 8) k outcome) ≤ length nodes.old) }
+    ensures { Wrote nodes.old at (selector_with (column % 8) k outcome) nodes.new result }
 {
     let middle = put_turned(nodes, at, column, k);
     let last = put_turned(nodes, middle, column, second_turns(k, outcome));
     put_ending(nodes, last, outcome)
 }
 
-// The selector of a cell at a column, in a row with an outcome; a silent row has none.
+// The selector of a cell at a column, in a row with an outcome; a silent row has none. Cell and outcome are bytes, and buffer and place
+// two parameters, since it promises this for all of them: narrower types would ask more.
 pub fn put_selector(nodes: &mut [u8], at: usize, column: usize, cell: u8, outcome: u8) -> usize
     ensures { WroteWhole nodes.old (at % 4294967296) (selector (column % 8) (from_number cell) (from_number outcome))
         nodes.new result }
 {
     let start = at % PLACES;
-    if outcome == SILENT {
+    let answer = Answer::from(outcome);
+    if answer == Answer::Silent {
         return start;
     }
     let k = turns_to_clash(cell);
-    let end = start + selector_size(k, outcome);
+    let end = start + selector_size(k, answer);
     if nodes.len() < end {
         return end;
     }
-    put_whole(nodes, start, column, k, outcome)
+    put_whole(nodes, start, column, k, answer)
 }

@@ -1,6 +1,6 @@
 -- Sets of what may be. A set is a list, of which only counts what stands in it; an operator acts on sets member by member; a
 -- set is handed on as a number.
-use Rattle.std.specs.Prelude.{ℕ, ◌^◌, Bool, cond, eqb}
+use Rattle.std.specs.Prelude.{ℕ, ◌^◌, Bool, true, false, cond, eqb, ◌≡◌}
 use mathlib.Core.List.{List, [], ◌∷◌, ◌++◌, map, Memᴰ}
 use Rattle.std.specs.Int.Bits.{bit_or}
 use Rattle.words.specs.Meaning.{bit}
@@ -39,6 +39,24 @@ answer_set = set_of number
 
 abbrev pub answers_in : ℕ → List Answer
 answers_in = members number (Silent ∷ Bury ∷ Keep ∷ Clash ∷ [])
+
+-- A set of truths: false 1, true 2
+abbrev pub truth_number : Bool → ℕ
+truth_number false = 0
+truth_number true = 1
+
+abbrev pub truth_set : List Bool → ℕ
+truth_set = set_of truth_number
+
+abbrev pub truths_in : ℕ → List Bool
+truths_in = members truth_number (false ∷ true ∷ [])
+
+-- A function that code was handed, of one argument and of two, as a function: it gives nothing else.
+abbrev pub Computes : {A B : Type 0} → (A → B → Type 0) → (A → B) → Type 0
+Computes {A} {B} gives f = (a : A) (b : B) → gives a b → b ≡ f a
+
+abbrev pub Computes2 : {A B C : Type 0} → (A → B → C → Type 0) → (A → B → C) → Type 0
+Computes2 {A} {B} {C} gives f = (a : A) (b : B) (c : C) → gives a b c → c ≡ f a b
 
 -- "The column receives the meet of the set": the meet of its members, one after another. Clash is where that starts, since it changes
 -- nothing; no set that a voice answers is empty.

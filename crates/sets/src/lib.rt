@@ -1,113 +1,183 @@
-// Sets of answers, and the operators on them: an operator gives every answer that it gives to some possible operands.
+// Sets of what may be: of answers that a policy may give, and of truths that a test may have. An operator on sets gives everything
+// that it gives to some possible operands.
 //
-// A set is a number of four bits: silent 1, bury 2, keep 4, clash 8. Higher bits are not looked at and never set.
-// It refuses nothing.
-//
-// The answers are gone through one by one, laid out in full, so that what is not in a set costs one test.
+// A set is a number: of answers silent 1, bury 2, keep 4, clash 8, of truths false 1, true 2. Higher bits are not looked at and never
+// set. It refuses nothing.
 
 #![tactic(auto)]
 
-ghost use Rattle.std.specs.Prelude.{◌≡◌, cond, [], ◌∷◌, map};
-ghost use Rattle.answers.specs.Meaning.{number, meet, apply_one, apply_two};
-ghost use Rattle.sets.specs.Meaning.{answer_set, answers_in, has, member, pairs, meet_of};
+ghost use Rattle.std.specs.Prelude.{◌≡◌, ◌<◌, List, [], ◌∷◌, ℕ, map, fold, false, true, bit_or};
+ghost use Rattle.answers.specs.Meaning.{number, apply_one, apply_two};
+ghost use Rattle.answers.specs.declared.Answer.TheVariants.{Silent, Bury, Keep, Clash};
+ghost use Rattle.sets.specs.Meaning.{answer_set, answers_in, truth_number, set_of, has, members, pairs, meet_of, Computes, Computes2};
 
 use answers::operators::{One, Two};
 use answers::{Answer, operators};
+use std::marker::{Model, PhantomData};
 
-// The set of one answer.
-pub fn only(a: Answer) -> u8
-    ensures { result ≡ answer_set (a ∷ []) }
-{
-    match a {
-        Answer::Silent => 1,
-        Answer::Bury => 2,
-        Answer::Keep => 4,
-        Answer::Clash => 8,
+// What sets are made of: each has a number of its own, which is its bit.
+pub trait Member: Copy + 'static {
+    ghost number: { Self → ℕ };
+
+    ghost all: { List Self };
+
+    fn number(self) -> u8
+        ensures value { result ≡ number self }
+        ensures small { result < 8 };
+
+    // All that there are, in order.
+    fn all() -> &'static [Self]
+        ensures { result.now ≡ all };
+}
+
+impl Member for Answer {
+    ghost number = { number };
+
+    ghost all = { Silent ∷ Bury ∷ Keep ∷ Clash ∷ [] };
+
+    fn number(self) -> u8 {
+        u8::from(self)
+    }
+
+    fn all() -> &'static [Answer] {
+        &[Answer::Silent, Answer::Bury, Answer::Keep, Answer::Clash]
     }
 }
 
-// Whether an answer is in the set.
-pub fn has(set: u8, a: Answer) -> bool
-    ensures { result ≡ has number a set }
-{
-    (set >> answers::number(a)) % 2 == 1
+impl Member for bool {
+    ghost number = { truth_number };
+
+    ghost all = { false ∷ true ∷ [] };
+
+    fn number(self) -> u8 {
+        self as u8
+    }
+
+    fn all() -> &'static [bool] {
+        &[false, true]
+    }
 }
 
-// What the operator gives of one answer, if that is in the set.
-fn one_of(operator: One, set: u8, p: Answer) -> u8
-    ensures { result ≡ answer_set (map (apply_one operator) (member number p set)) }
-{
-    if has(set, p) {
-        only(operators::apply_one(operator, p))
-    } else {
-        0
+// A set of these, as a number: a bit for each member.
+#[derive(Clone, Copy)]
+pub struct Set<T> {
+    bits: u8,
+    of: PhantomData<T>,
+}
+
+impl<T> Model for Set<T> {
+    ghost use Rattle.std.specs.Prelude.{ℕ};
+
+    ghost Value = { ℕ };
+
+    ghost view = { λ s. s.bits };
+
+    ghost inverse = { λ n. record { bits = n; of = record {} } };
+}
+
+// The number of a set.
+impl<T> From<Set<T>> for u8 {
+    ghost from_gives = { λ set n. n ≡ set };
+
+    fn from(set: Set<T>) -> u8 {
+        set.bits
+    }
+}
+
+impl<T: Member> Set<T> {
+    fn of_bits(bits: u8) -> Set<T>
+        ensures { result ≡ bits }
+    {
+        Set {
+            bits,
+            of: PhantomData,
+        }
+    }
+
+    // The set with no member.
+    pub fn empty() -> Set<T>
+        ensures { result ≡ 0 }
+    {
+        Set::of_bits(0)
+    }
+
+    // The set of one member.
+    #[tactic(auto, using(crate::proofs::Images::only_laws), unfolding(crate::specs::Meaning::set_of))]
+    pub fn only(member: T) -> Set<T>
+        ensures { result ≡ set_of T.number (member ∷ []) }
+    {
+        Set::of_bits(1 << member.number())
+    }
+
+    // Whether it is in the set.
+    #[tactic(auto, unfolding(crate::specs::Meaning::has))]
+    pub fn has(self, member: T) -> bool
+        ensures { result ≡ has T.number member self }
+    {
+        (self.bits >> member.number()) % 2 == 1
+    }
+
+    // Both sets together.
+    pub fn union(self, other: Set<T>) -> Set<T>
+        ensures { result ≡ bit_or self other }
+    {
+        Set::of_bits(self.bits | other.bits)
+    }
+
+    // What a function makes of a start and the members, one after another.
+    pub fn fold<A, F: Fn(A, T) -> A>(self, start: A, f: F) -> A
+        requires { F.IsAlwaysCallable f }
+        ensures { (g : A → T → A) → Computes2 (F.post f) g → result ≡ fold g start (members T.number T.all self) }
+    {
+        let mut folded = start;
+        for member in T::all() {
+            if self.has(*member) {
+                folded = f(folded, *member);
+            }
+        }
+        folded
+    }
+
+    // What a function gives of each member.
+    pub fn map<U: Member, F: Fn(T) -> U>(self, f: F) -> Set<U>
+        requires { F.IsAlwaysCallable f }
+        ensures { (g : T → U) → Computes (F.post f) g → result ≡ set_of U.number (map g (members T.number T.all self)) }
+    {
+        self.fold(
+            Set::empty(),
+            |image: Set<U>, member| image.union(Set::only(f(member))),
+        )
+    }
+
+    // What a function gives of each pair of members.
+    pub fn pairs<F: Fn(T, T) -> T>(self, second: Set<T>, f: F) -> Set<T>
+        requires { F.IsAlwaysCallable f }
+        ensures { (g : T → T → T) → Computes2 (F.post f) g → result ≡ set_of T.number (pairs g (members T.number T.all self) (members T.number T.all second)) }
+    {
+        self.fold(
+            Set::empty(),
+            |image: Set<T>, member| image.union(second.map(|other| f(member, other))),
+        )
     }
 }
 
 // An operator of one operand.
-pub fn apply_one(operator: One, set: u8) -> u8
+pub fn apply_one(operator: One, set: Set<Answer>) -> Set<Answer>
     ensures { result ≡ answer_set (map (apply_one operator) (answers_in set)) }
 {
-    let silent = one_of(operator, set, Answer::Silent);
-    let bury = one_of(operator, set, Answer::Bury);
-    let keep = one_of(operator, set, Answer::Keep);
-    let clash = one_of(operator, set, Answer::Clash);
-    silent | (bury | (keep | clash))
-}
-
-// What the operator gives of an answer and of one more, if that is in the second set.
-fn pair_of(operator: Two, p: Answer, second: u8, q: Answer) -> u8
-    ensures { result ≡ answer_set (map (apply_two operator p) (member number q second)) }
-{
-    if has(second, q) {
-        only(operators::apply_two(operator, p, q))
-    } else {
-        0
-    }
-}
-
-// What the operator gives of one answer, if that is in the first set, and of each in the second.
-fn pairs_of(operator: Two, first: u8, p: Answer, second: u8) -> u8
-    ensures { result ≡ answer_set (pairs (apply_two operator) (member number p first) (answers_in second)) }
-{
-    if has(first, p) {
-        let silent = pair_of(operator, p, second, Answer::Silent);
-        let bury = pair_of(operator, p, second, Answer::Bury);
-        let keep = pair_of(operator, p, second, Answer::Keep);
-        let clash = pair_of(operator, p, second, Answer::Clash);
-        return silent | (bury | (keep | clash));
-    }
-    0
+    set.map(|p| operators::apply_one(operator, p))
 }
 
 // An operator of two operands, on every pair.
-pub fn apply_two(operator: Two, first: u8, second: u8) -> u8
+pub fn apply_two(operator: Two, first: Set<Answer>, second: Set<Answer>) -> Set<Answer>
     ensures { result ≡ answer_set (pairs (apply_two operator) (answers_in first) (answers_in second)) }
 {
-    let silent = pairs_of(operator, first, Answer::Silent, second);
-    let bury = pairs_of(operator, first, Answer::Bury, second);
-    let keep = pairs_of(operator, first, Answer::Keep, second);
-    let clash = pairs_of(operator, first, Answer::Clash, second);
-    silent | (bury | (keep | clash))
-}
-
-// The meet of an answer with one more, if that is in the set.
-fn meet_with(set: u8, a: Answer, rest: Answer) -> Answer
-    ensures { result ≡ cond (has number a set) (meet a rest) rest }
-{
-    if has(set, a) {
-        operators::apply_two(Two::Meet, a, rest)
-    } else {
-        rest
-    }
+    first.pairs(second, |p, q| operators::apply_two(operator, p, q))
 }
 
 // The meet of the set: clash, in which every answer is contained, met with each member.
-pub fn meet(set: u8) -> Answer
+pub fn meet(set: Set<Answer>) -> Answer
     ensures { result ≡ meet_of (answers_in set) }
 {
-    let clash = meet_with(set, Answer::Clash, Answer::Clash);
-    let keep = meet_with(set, Answer::Keep, clash);
-    let bury = meet_with(set, Answer::Bury, keep);
-    meet_with(set, Answer::Silent, bury)
+    set.fold(Answer::Clash, operators::meet)
 }

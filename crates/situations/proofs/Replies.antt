@@ -10,10 +10,12 @@ use borrow.Author.Tests.{eqb-true, eqb-false}
 use native.Mathlib.Omega.{arith}
 use Rattle.answers.specs.Meaning.{number, from_number}
 use Rattle.answers.specs.declared.Answer.{Answer}
+use Rattle.std.specs.Prelude.{Result, Ok, Err}
+use Rattle.refusals.specs.Meaning.{Numbers, none, numbers, checked}
 use Rattle.refusals.specs.declared.Refusal.{Refusal}
+use Rattle.refusals.proofs.Checks.{check_refused, check_passed, refusal_counts}
 use Rattle.situations.specs.declared.Situation.{Situation}
-use Rattle.situations.specs.declared.Merged.{Merged}
-use Rattle.situations.specs.Meaning.{answers_of, columns, fault_of, merge, merge_bytes, merge_of}
+use Rattle.situations.specs.Meaning.{answers_of, columns, fault_of, merge, merge_bytes, merge_of, Merged, merged}
 use Rattle.situations.proofs.MergeReply.{faultless_short}
 use Rattle.situations.proofs.Merging.{merge-length}
 use Rattle.situations.proofs.Numbers.{answers_of-number}
@@ -132,20 +134,25 @@ merged-joined s t e =
 pub columns-length : (s : Situation) → length s.answers ≡ 6 → s.length ≤ 6 → length (columns s) ≡ s.length
 columns-length s e h = length-map (take s.length s.answers) from_number ∙ length-take-le s.length s.answers (omega arith)
 
-abbrev reply : Refusal → Situation → Merged
+abbrev reply : Numbers → Situation → Merged
 reply r m = record { refusal = r; situation = m }
 
 -- the ways out of a merge whose check has given its refusal
-module _ (s t : Situation) {r : Refusal} (e : r ≡ (merge_of s t).refusal) where
-  pub merge-refused : (r.number ≡ 0 → ⊥) → record { refusal = r; situation = s } ≡ merge_of s t
-  merge-refused h = ap₂ reply e (sym (merged-refused s t (rw e at (h))))
+module _ (s t : Situation) {q : Result Unit Refusal} (e : checked q ≡ (merge_of s t).refusal) where
+  pub merge-refused : (x : Refusal) → q ≡ Err x → merged (Err (record { refusal = x; situation = s })) ≡ merge_of s t
+  merge-refused x i =
+      let r : numbers x ≡ (merge_of s t).refusal = check_refused e x i in
+      ap₂ reply r (sym (merged-refused s t (λ h. refusal_counts x (ap (λ (n : Numbers). n.number) r ∙ h))))
 
-  module _ (a : r.number ≡ 0) where
+  module _ (i : q ≡ Ok tt) where
+    nothing : none ≡ (merge_of s t).refusal
+    nothing = check_passed e tt i
+
     pub merge-short : length s.answers ≡ 6 → s.length ≤ 6
-    merge-short l = (merged-joined s t l (rw e at (a))).short
+    merge-short l = (merged-joined s t l (sym (ap (λ (n : Numbers). n.number) nothing))).short
 
     pub merge-joined :
         {l : List ℕ} →
         l ≡ merge_bytes s.length s.answers t.answers →
-        record { refusal = r; situation = record { length = s.length; answers = l } } ≡ merge_of s t
-    merge-joined p = ap₂ reply e (rw p (sym (merged-bytes s t (rw e at (a)))))
+        merged (Ok (record { length = s.length; answers = l })) ≡ merge_of s t
+    merge-joined p = ap₂ reply nothing (rw p (sym (merged-bytes s t (sym (ap (λ (n : Numbers). n.number) nothing)))))

@@ -1,13 +1,12 @@
 -- Situations: which bytes are one, their merger, their order in base 4, and the steps between them.
-use Rattle.std.specs.Prelude.{ℕ, zero, suc, ◌+◌, ◌*◌, ◌/◌, ◌%◌, ◌^◌, ◌<◌, Bool, true, false, cond, ◌||◌, List, [], ◌∷◌, ◌++◌, map, T, ltb, eqb, length, take, drop, get_or, set, replicate}
-use Rattle.refusals.specs.Meaning.{none, refused, after, SITUATION}
-use Rattle.refusals.specs.declared.Refusal.{Refusal}
+use Rattle.std.specs.Prelude.{ℕ, zero, suc, ◌+◌, ◌*◌, ◌/◌, ◌%◌, ◌^◌, ◌<◌, Bool, true, false, cond, ◌||◌, List, [], ◌∷◌, ◌++◌, map, T, ltb, eqb, length, take, drop, get_or, set, replicate, Result, Ok, Err}
+use Rattle.refusals.specs.Meaning.{Numbers, none, refused, after, numbers, SITUATION}
 use Rattle.fields.specs.Meaning.{first_above}
 use Rattle.answers.specs.Meaning.{number, from_number, join, contained}
 use Rattle.answers.specs.declared.Answer.{Answer}
 use Rattle.answers.specs.declared.Answer.TheVariants.{Silent, Bury, Keep, Clash}
 use Rattle.situations.specs.declared.Situation.{Situation}
-use Rattle.situations.specs.declared.Merged.{Merged}
+use Rattle.situations.specs.declared.Unmerged.{Unmerged}
 
 -- "A situation is n answers", n from 1 to 6.
 abbrev pub outside : ℕ → Bool
@@ -22,13 +21,13 @@ abbrev pub columns : Situation → List Answer
 columns s = answers_of (take s.length s.answers)
 
 -- "First the situation: its length outside 1 to 6, SITUATION, place the length; else its first answer above 3, place its index."
-unfoldable pub fault : List ℕ → Refusal
+unfoldable pub fault : List ℕ → Numbers
 fault s =
     cond (outside (length s)) (refused SITUATION (length s))
     (cond (ltb (first_above 3 s) (length s)) (refused SITUATION (first_above 3 s)) none)
 
 -- The same of a situation by value.
-unfoldable pub fault_of : Situation → Refusal
+unfoldable pub fault_of : Situation → Numbers
 fault_of s = cond (ltb 6 s.length) (refused SITUATION s.length) (fault (take s.length s.answers))
 
 -- "Merging is the join column by column."
@@ -41,6 +40,15 @@ merge (x ∷ s) (y ∷ t) = join x y ∷ merge s t
 unfoldable pub merge_bytes : ℕ → List ℕ → List ℕ → List ℕ
 merge_bytes n s t = map number (merge (answers_of (take n s)) (answers_of (take n t))) ++ drop n s
 
+-- What a merge replies, and the same of a result.
+pub record Merged : Type 0 where
+  pub refusal : Numbers
+  pub situation : Situation
+
+abbrev pub merged : Result Situation Unmerged → Merged
+merged (Ok s) = record { refusal = none; situation = s }
+merged (Err u) = record { refusal = numbers u.refusal; situation = u.situation }
+
 -- "The merged situation replaces the old one and is handed back. SITUATION for the first operand, then the second,
 -- then for unequal lengths (place the second's length). A refused merge hands back the first as it came."
 unfoldable pub merge_of : Situation → Situation → Merged
@@ -51,7 +59,7 @@ merge_of s t =
     (record { refusal = none; situation = record { length = s.length; answers = merge_bytes s.length s.answers t.answers } })
     (hand_back (refused SITUATION t.length))))
   where
-    hand_back : Refusal → Merged
+    hand_back : Numbers → Merged
     hand_back r = record { refusal = r; situation = s }
 
 -- A situation is contained in another one when each column's answer is contained in the other's.

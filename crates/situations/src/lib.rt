@@ -8,48 +8,51 @@
 #![tactic(auto)]
 
 ghost use Rattle.std.specs.Prelude.{◌≡◌, ◌≤◌};
-ghost use Rattle.situations.specs.Meaning.{fault, fault_of, merge_bytes, merge_of};
+ghost use Rattle.refusals.specs.Meaning.{checked};
+ghost use Rattle.situations.specs.Meaning.{fault, fault_of, merge_bytes, merge_of, merged};
 ghost use Rattle.situations.specs.Inside.{join_numbers};
 
-use refusals::{Refusal, SITUATION};
+use answers::{Answer, operators};
+use refusals::{Kind, Refusal};
 
-// A situation by value. Only the answers below the length count.
+// A situation by value. Only the answers below the length count. It is a length beside six bytes, of any content, since C hands it over
+// so and memory is fixed; what is wrong with one is said by its check.
 #[derive(Clone, Copy)]
 pub struct Situation {
     pub length: usize,
     pub answers: [u8; 6],
 }
 
+// Why two situations do not merge, and the first of them as it came.
 #[derive(Clone, Copy)]
-pub struct Merged {
+pub struct Unmerged {
     pub refusal: Refusal,
     pub situation: Situation,
 }
 
-// What is wrong with a situation of these bytes.
+// Are these bytes a situation?
 #[tactic(auto, using(crate::proofs::Faults::fault_laws))]
-pub fn fault(situation: &[u8]) -> Refusal
-    ensures { result ≡ fault situation.now }
+pub fn check(situation: &[u8]) -> Result<(), Refusal>
+    ensures { checked result ≡ fault situation.now }
 {
     let length = situation.len();
     if length < 1 {
-        return refusals::refused(SITUATION, length);
+        return Err(Refusal::at(Kind::Situation, length));
     }
     if 6 < length {
-        return refusals::refused(SITUATION, length);
+        return Err(Refusal::at(Kind::Situation, length));
     }
-    let place = fields::first_above(situation, 3);
-    if place < length {
-        return refusals::refused(SITUATION, place);
+    match fields::first_above(situation, 3) {
+        Some(place) => Err(Refusal::at(Kind::Situation, place)),
+        None => Ok(()),
     }
-    refusals::none()
 }
 
 // The number of the join of two answers with these numbers.
 fn join_numbers(p: u8, q: u8) -> u8
     ensures { result ≡ join_numbers p q }
 {
-    answers::number(answers::operators::join(answers::from_number(p), answers::from_number(q)))
+    u8::from(operators::join(Answer::from(p), Answer::from(q)))
 }
 
 // The first n answers joined with the other's, the rest as they came.
@@ -58,66 +61,56 @@ fn joined(answers: [u8; 6], other: [u8; 6], n: usize) -> [u8; 6]
     ensures { result ≡ merge_bytes n answers other }
 {
     let mut merged = answers;
-    let mut i = 0;
-    while i < n {
+    for i in 0..n {
         merged[i] = join_numbers(answers[i], other[i]);
-        i += 1;
     }
     merged
 }
 
 impl Situation {
-    // What is wrong with this situation.
-    pub fn fault(self) -> Refusal
-        ensures { result ≡ fault_of self }
+    // Is this a situation?
+    pub fn check(self) -> Result<(), Refusal>
+        ensures { checked result ≡ fault_of self }
     {
         let length = self.length;
         let answers = self.answers;
         if 6 < length {
-            return refusals::refused(SITUATION, length);
+            return Err(Refusal::at(Kind::Situation, length));
         }
-        fault(&answers[..length])
+        check(&answers[..length])
     }
 
-    // What is wrong with a merge of this situation with another one.
-    fn merge_fault(self, other: Situation) -> Refusal
-        ensures { result ≡ (merge_of self other).refusal }
+    // Does this situation merge with another one?
+    fn check_merge(self, other: Situation) -> Result<(), Refusal>
+        ensures { checked result ≡ (merge_of self other).refusal }
     {
-        let first = self.fault();
-        if first.number != 0 {
-            return first;
-        }
-        let second = other.fault();
-        if second.number != 0 {
-            return second;
-        }
+        self.check()?;
+        other.check()?;
         let length = other.length;
         if self.length != length {
-            return refusals::refused(SITUATION, length);
+            return Err(Refusal::at(Kind::Situation, length));
         }
-        refusals::none()
+        Ok(())
     }
 
     // This situation joined with another one, column by column.
-    pub fn merge(self, other: Situation) -> Merged
-        ensures { result ≡ merge_of self other }
+    pub fn merge(self, other: Situation) -> Result<Situation, Unmerged>
+        ensures { merged result ≡ merge_of self other }
     {
-        let refusal = self.merge_fault(other);
-        if refusal.number != 0 {
-            return Merged {
+        match self.check_merge(other) {
+            Ok(()) => {
+                let length = self.length;
+                let answers = self.answers;
+                let more = other.answers;
+                Ok(Situation {
+                    length,
+                    answers: joined(answers, more, length),
+                })
+            }
+            Err(refusal) => Err(Unmerged {
                 refusal,
                 situation: self,
-            };
-        }
-        let length = self.length;
-        let answers = self.answers;
-        let more = other.answers;
-        Merged {
-            refusal,
-            situation: Situation {
-                length,
-                answers: joined(answers, more, length),
-            },
+            }),
         }
     }
 }

@@ -7,8 +7,7 @@ use native.Mathlib.Omega.{arith}
 use lib.Dec.{eqb}
 use lib.ListN.{length, get_or, drop}
 use borrow.Author.Tests.{le-ltb, ne_eqb, eqb-true, eqb-false}
-use Rattle.refusals.specs.declared.Refusal.{Refusal}
-use Rattle.refusals.specs.Meaning.{none, after}
+use Rattle.refusals.specs.Meaning.{Numbers, none, after}
 use Rattle.fields.specs.Meaning.{two, two_bytes, four_bytes, Bytes}
 use Rattle.fields.proofs.Numbers.{two_write_read, four_write_read, two-small, four-small, two_read_write, four_read_write, byte_at}
 use Rattle.fields.proofs.Numbers.{bytes_drop, bytes-append, two_bytes_lem, four_bytes_lem}
@@ -113,7 +112,7 @@ written-more left least s h bytes (facts fs) w = (
 )
 written-more left least s h bytes (refused x) w = tt
 
-written_after : (left least : ℕ) (s : List ℕ) (x : Refusal) (r : Reading) → (x.number ≡ 0 → Written left least s r) →
+written_after : (left least : ℕ) (s : List ℕ) (x : Numbers) (r : Reading) → (x.number ≡ 0 → Written left least s r) →
     Written left least s (after x refused r)
 written_after left least s x r h = go (eqb x.number 0) refl
   where

@@ -12,12 +12,13 @@ use Rattle.words.specs.Meaning.{bit}
 use Rattle.answers.specs.Meaning.{number, from_number, contained}
 use Rattle.answers.specs.declared.Answer.{Answer}
 use Rattle.answers.specs.declared.Answer.TheVariants.{Silent, Bury, Keep, Clash}
+use Rattle.answers.proofs.Claims.{from_number_lem}
 use Rattle.answers.proofs.Every.{each}
 use Rattle.situations.specs.Meaning.{weight, digit, index, situation_at}
 use Rattle.situations.proofs.Columns.{situation_at-column}
 use Rattle.situations.proofs.Numbers.{index-situation_at}
 use Rattle.situations.proofs.Raised.{index-raised}
-use Rattle.situations.proofs.Weights.{weight_power, power_small, power_shift}
+use Rattle.situations.proofs.Weights.{weight_power, power_shift}
 use Rattle.planes.specs.Meaning.{lane}
 use Rattle.steps.specs.Meaning.{in_words, first_from, first_answer}
 use Rattle.steps.specs.Inside.{grown, AtColumn}
@@ -178,6 +179,13 @@ module _ (bury keep : List ℕ) (n w c : ℕ) (k : AtColumn n w c) where
       pub none-fails : d ≡ true → 4 ≡ first_answer (in_words bury keep) (situation_at n w) c
       none-fails q = none_at (digit w (n - 1 - c)) refl q
 
+  -- a digit with one bit set is an answer's number
+  set_small : (old m : ℕ) → old ≡ digit w (n - 1 - c) → m < 4 → bit_or old m ≤ 3
+  set_small old m o l = omega (arith, or_lt 2 old m (rw o (omega arith)) l)
+
+  told : {a : Answer} {m : ℕ} → a ≡ from_number m → m ≤ 3 → number a ≡ m
+  told i l = ap number i ∙ from_number_lem _ l
+
   -- the same with the column's weight
   module _ {b : ℕ} (v : b ≡ weight (n - 1 - c)) where
     weight_is : b ≡ 4 ^ (n - 1 - c)
@@ -197,24 +205,26 @@ module _ (bury keep : List ℕ) (n w c : ℕ) (k : AtColumn n w c) where
     pub times_fits : (m : ℕ) → m ≤ 3 → m * b < 18446744073709551616
     times_fits m l = omega (arith, times_small m l)
 
-    pub here-inside : w < 4096
-    here-inside = omega (arith, power_small n k.here.most, k.here.inside)
-
-    pub lower_inside : bit_or w b < 4096
-    lower_inside = or_lt 12 w b here-inside (omega (arith, weight-small))
-
-    pub higher_inside : (m : ℕ) → m ≤ 3 → bit_or w (m * b) < 4096
-    higher_inside m l = or_lt 12 w (m * b) here-inside (times_small m l)
-
     module _ {g : Bool} (h : g ≡ grown bury keep w (bit_or w b)) where
       pub tried_lower :
-          (old : ℕ) → old ≡ digit w (n - 1 - c) → g ≡ false → bit_or old 1 ≡ first_answer (in_words bury keep) (situation_at n w) c
-      tried_lower old o q = lower_fails (rw weight_is at h) old o q
+          (a : Answer) (old : ℕ) →
+          old ≡ digit w (n - 1 - c) →
+          g ≡ false →
+          a ≡ from_number (bit_or old 1) →
+          number a ≡ first_answer (in_words bury keep) (situation_at n w) c
+      tried_lower a old o q i = told i (set_small old 1 o (omega arith)) ∙ lower_fails (rw weight_is at h) old o q
 
       module _ (y : g ≡ true) {d : Bool} (j : d ≡ grown bury keep w (bit_or w (2 * b))) where
         pub tried_higher :
-            (old : ℕ) → old ≡ digit w (n - 1 - c) → d ≡ false → bit_or old 2 ≡ first_answer (in_words bury keep) (situation_at n w) c
-        tried_higher old o q = higher_fails (rw weight_is at h) y (rw weight_is at j) old o q
+            (a : Answer) (old : ℕ) →
+            old ≡ digit w (n - 1 - c) →
+            d ≡ false →
+            a ≡ from_number (bit_or old 2) →
+            number a ≡ first_answer (in_words bury keep) (situation_at n w) c
+        tried_higher a old o q i =
+            told i (set_small old 2 o (omega arith)) ∙ higher_fails (rw weight_is at h) y (rw weight_is at j) old o q
 
         pub tried_none : d ≡ true → 4 ≡ first_answer (in_words bury keep) (situation_at n w) c
         tried_none q = none-fails (rw weight_is at h) y (rw weight_is at j) q
+
+pub ruleset answer_laws = (tried_lower, tried_higher, tried_none)

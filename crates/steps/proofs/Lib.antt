@@ -4,3 +4,4 @@ pub mod SetBit
 pub mod FirstAnswer
 pub mod FirstColumn
 pub mod NoneFails
+pub mod Apart

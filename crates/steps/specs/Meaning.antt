@@ -1,11 +1,11 @@
 -- Steps: when a step fails, and which of those that fail is the first. Which raises are steps is said in situations.
-use Rattle.std.specs.Prelude.{ℕ, zero, suc, ◌^◌, Bool, cond, not, ◌&&◌, List, ltb, length, get_or, set}
-use Rattle.answers.specs.Meaning.{from_number, contained}
+use Rattle.std.specs.Prelude.{ℕ, zero, suc, ◌^◌, Bool, cond, not, ◌&&◌, List, ltb, length, get_or, set, Option, Some, None}
+use Rattle.answers.specs.Meaning.{number, from_number, contained}
 use Rattle.answers.specs.declared.Answer.{Answer}
 use Rattle.answers.specs.declared.Answer.TheVariants.{Silent}
 use Rattle.situations.specs.Meaning.{weight, index, situation_at, raises}
 use Rattle.planes.specs.Meaning.{lane}
-use Rattle.steps.specs.declared.Step.{Step}
+use Rattle.steps.specs.declared.Raise.{Raise}
 
 -- "A step raises one column": it fails where the answer before is not contained in the answer after.
 abbrev pub fails : (List Answer → Answer) → List Answer → ℕ → Answer → Bool
@@ -37,6 +37,12 @@ situation_fails f n w = ltb (first_column f (situation_at n w)) n
 unfoldable pub first_situation : (List Answer → Answer) → ℕ → ℕ
 first_situation f n = first_from (situation_fails f n) (4 ^ n) 0
 
+-- A step by the numbers of its situation, its column and its new answer.
+pub record Step : Type 0 where
+  pub number : ℕ
+  pub column : ℕ
+  pub answer : ℕ
+
 -- The first failing step from the situation with a number; where none fails, its column is n and its answer 4.
 abbrev pub step_at : (List Answer → Answer) → ℕ → ℕ → Step
 step_at f n w =
@@ -57,6 +63,15 @@ step_from f n w = cond (ltb w (weight n)) (step_at f n w) (no_step n)
 -- The first failing step. More columns than the most have none.
 unfoldable pub first_step : (List Answer → Answer) → ℕ → Step
 first_step f n = step_from f n (first_situation f n)
+
+-- What a result of the code says: the lowest new answer at a column, and the first step from a number.
+abbrev pub answer_told : Option Answer → ℕ
+answer_told (Some a) = number a
+answer_told None = 4
+
+abbrev pub step_told : ℕ → ℕ → Option Raise → Step
+step_told n w (Some r) = record { number = r.number; column = r.column; answer = number r.answer }
+step_told n w None = cond (ltb w (weight n)) (record { number = w; column = n; answer = 4 }) (no_step n)
 
 -- What two blocks of words answer at a situation.
 unfoldable pub in_words : List ℕ → List ℕ → List Answer → Answer

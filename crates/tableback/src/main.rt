@@ -6,10 +6,9 @@
 
 #![tactic(auto)]
 
-ghost use Rattle.std.specs.Prelude.{◌≡◌, length};
-
-use listing::Written;
+use refusals::Refusal;
 use std::env::{Env, FillError};
+use text::Page;
 
 // The longest array that is read. Compiling never gives more than 200,771 nodes.
 const NODES: usize = 266240;
@@ -28,21 +27,22 @@ fn say(rt: &HostRuntime, line: &[u8]) {
     let _ = rt.stderr().write_all(line);
 }
 
-fn tell(rt: &HostRuntime, written: Written) {
+fn tell(rt: &HostRuntime, refusal: Refusal) {
     let mut line = [0u8; LINE];
-    let end = text::put_refusal(&mut line, 0, written.refusal);
-    say(rt, &line[..end]);
+    let mut page = Page::new(&mut line);
+    page.refusal(refusal);
+    say(rt, page.written());
 }
 
 fn give_back(rt: &HostRuntime, nodes: &[u8], columns: usize) {
     let mut table = [0u8; TABLE];
-    let written = untable::untable(nodes, columns, &mut table);
-    if written.refusal.number != 0 {
-        return tell(rt, written);
-    }
-    let length = written.length;
-    if rt.write_all(&table[..length]).is_err() {
-        say(rt, b"tableback: the table could not be written\n");
+    match untable::untable(nodes, columns, &mut table) {
+        Ok(length) => {
+            if rt.write_all(&table[..length]).is_err() {
+                say(rt, b"tableback: the table could not be written\n");
+            }
+        }
+        Err(refusal) => tell(rt, refusal),
     }
 }
 
@@ -50,20 +50,11 @@ fn give_back(rt: &HostRuntime, nodes: &[u8], columns: usize) {
 fn goes_on(rt: &HostRuntime) -> bool {
     let mut byte = [0u8; 1];
     let behind = input::read_input(rt, &mut byte);
-    if behind.failed.is_some() {
-        return true;
-    }
-    behind.count != 0
-}
-
-fn room() -> [u8; NODES]
-    ensures { 266240 ≡ length result }
-{
-    [0u8; NODES]
+    behind.failed.is_some() || behind.count != 0
 }
 
 fn read_nodes(rt: &HostRuntime, columns: usize) {
-    let mut nodes = room();
+    let mut nodes = [0u8; NODES];
     let read = input::read_input(rt, &mut nodes);
     if read.failed.is_some() {
         return say(rt, b"tableback: standard input could not be read\n");
@@ -71,8 +62,7 @@ fn read_nodes(rt: &HostRuntime, columns: usize) {
     if goes_on(rt) {
         return say(rt, b"tableback: the array has more than 266240 bytes\n");
     }
-    let count = read.count;
-    give_back(rt, &nodes[..count], columns);
+    give_back(rt, &nodes[..read.count], columns);
 }
 
 // Was the program started with an argument of this number? Its own name has the number 0.
@@ -90,12 +80,11 @@ fn main(rt: HostRuntime) {
     let mut word = [0u8; ARGUMENT];
     // A longer argument counts as none that is a number.
     let length = rt.arg(1, &mut word).unwrap_or(0);
-    let columns = decimals::number_in(&word[..length]);
-    if !columns.given {
-        return say(
+    match decimals::number_in(&word[..length]) {
+        Some(columns) => read_nodes(&rt, columns),
+        None => say(
             &rt,
             b"tableback: the number of columns is not a number in decimal\n",
-        );
+        ),
     }
-    read_nodes(&rt, columns.number);
 }

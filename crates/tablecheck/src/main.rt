@@ -14,9 +14,8 @@ fn main(rt: HostRuntime) {
     if read.failed.is_some() {
         return say(&rt, "standard input could not be read");
     }
-    let count = read.count;
     let mut text = [0u8; 256];
-    let length = judging::judge(&bytes[..count], &mut text);
+    let length = judging::judge(&bytes[..read.count], &mut text);
     if rt.write_all(&text[..length]).is_err() {
         say(&rt, "the verdict could not be written");
     }

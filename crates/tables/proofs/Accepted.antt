@@ -7,14 +7,12 @@ use lib.Dec.{eqb}
 use lib.ListN.{length, drop, length-drop}
 use borrow.Author.Tests.{eqb-true, eqb-false}
 use native.Mathlib.Omega.{arith}
-use Rattle.refusals.specs.Meaning.{after}
-use Rattle.refusals.specs.declared.Refusal.{Refusal}
+use Rattle.refusals.specs.Meaning.{Numbers, after}
 use Rattle.rows.specs.Meaning.{row_width, row_count, first_overlap}
 use Rattle.rows.proofs.RowBytes.{row_count-none, row_count-next}
-use Rattle.tables.specs.declared.TableRead.{TableRead}
 use Rattle.faults.specs.Meaning.{columns_of, columns_fault, row_fault}
 use Rattle.defaults.specs.Meaning.{default_fault}
-use Rattle.tables.specs.Meaning.{behind_columns, rows_start, rows_part, refuse_table, accept_table, rows_from, fields_of, read_of}
+use Rattle.tables.specs.Meaning.{TableRead, behind_columns, rows_start, rows_part, refuse_table, accept_table, rows_from, fields_of, read_of}
 use Rattle.faults.specs.Inside.{SoundColumns, SoundRow}
 use Rattle.faults.proofs.FirstField.{columns_fault-sound}
 use Rattle.faults.proofs.RowFaults.{row_fault-sound}
@@ -118,7 +116,7 @@ rows-counted n few =
 
 -- a check that comes first has passed where nothing is refused
 after-passed :
-    (check : Refusal) (f : TableRead) →
+    (check : Numbers) (f : TableRead) →
     (after check refuse_table f).refusal.number ≡ 0 →
     (check.number ≡ 0) × (after check refuse_table f ≡ f)
 after-passed check f h = go (eqb check.number 0) refl

@@ -1,18 +1,20 @@
 -- One row after another: the laws of reading a part from its front, and the loop that does it.
 use Prim.Native.Nat.{ℕ, zero, suc, ◌+◌, ◌-◌, ◌%◌, ◌≤◌, ◌<◌}
-use mathlib.Core.Path.{◌≡◌, refl, ap, sym, ◌∙◌}
+use mathlib.Core.Path.{◌≡◌, ap, sym, ◌∙◌}
 use mathlib.Core.List.{List}
 use lib.ListN.{length, take, drop, length-drop}
 use lib.Seq.{drop-drop}
 use borrow.Author.Tests.{eq-eqb, ne_eqb}
 use native.Mathlib.Omega.{arith}
-use Rattle.refusals.specs.Meaning.{none}
+use Rattle.std.specs.Prelude.{Result, Err}
+use Rattle.refusals.specs.Meaning.{Numbers, numbers}
 use Rattle.refusals.specs.declared.Refusal.{Refusal}
+use Rattle.refusals.proofs.Checks.{refusal_counts}
 use Rattle.fields.proofs.Rests.{rest-is}
 use Rattle.rows.specs.Meaning.{row_width}
-use Rattle.tables.specs.declared.TableRead.{TableRead}
 use Rattle.faults.specs.Meaning.{row_fault}
-use Rattle.tables.specs.Meaning.{refuse_table, accept_table, rows_from}
+use Rattle.tables.specs.Meaning.{refuse_table, accept_table, rows_from, table_read}
+use Rattle.tables.specs.declared.Read.{Read}
 use Rattle.faults.specs.Inside.{SoundRow}
 use Rattle.tables.specs.Inside.{Reading}
 use Rattle.faults.proofs.RowFaults.{row_fault-sound}
@@ -43,18 +45,11 @@ rows_from-pass (suc left) n at rows h k =
     rw (e, ne_eqb (length rows) 0 h, eq-eqb (row_fault (suc left) n at rows).number 0 k)
 
 -- the loop over the rows
-pub reading_none : (n start : ℕ) (t : List ℕ) → n ≤ 6 → start ≤ 8 → Reading n start t start 64
-reading_none n start t narrow front = record { narrow = narrow; near = omega arith; few = omega arith; rest = refl }
-
 module _ (n start : ℕ) (t : List ℕ) (at left : ℕ) (w : Reading n start t at left) where
-  pub reading_all :
-      {r : Refusal} →
-      length t ≤ at →
-      r ≡ none →
-      record { refusal = r; columns = n; rows = 64 - left } ≡ rows_from 64 n start (drop start t)
-  reading_all l e = rw e (sym (rows_from-end left n at (drop at t) (simp length-drop (omega arith))) ∙ w.rest)
+  pub reading_all : length t ≤ at → accept_table n (64 - left) ≡ rows_from 64 n start (drop start t)
+  reading_all l = sym (rows_from-end left n at (drop at t) (simp length-drop (omega arith))) ∙ w.rest
 
-  module _ (l : at < length t) {r : Refusal} (e : r ≡ row_fault left (n % 8) (at % 1024) (take (length t - at) (drop at t))) where
+  module _ (l : at < length t) {r : Numbers} (e : r ≡ row_fault left (n % 8) (at % 1024) (take (length t - at) (drop at t))) where
     some : length (drop at t) ≡ 0 → ⊥
     some z = absurd (omega (arith, z, length-drop at t))
 
@@ -67,11 +62,19 @@ module _ (n start : ℕ) (t : List ℕ) (at left : ℕ) (w : Reading n start t a
         rw (columns, place, rest-is at t) at e
 
     number_is : r.number ≡ (row_fault left n at (drop at t)).number
-    number_is = ap (λ (x : Refusal). x.number) fault-is
+    number_is = ap (λ (x : Numbers). x.number) fault-is
 
-    pub reading_stop : {q : TableRead} → (r.number ≡ 0 → ⊥) → q ≡ refuse_table r → q ≡ rows_from 64 n start (drop start t)
-    reading_stop h k =
-        k ∙ ap refuse_table fault-is ∙ sym (rows_from-stop left n at (drop at t) some (λ z. h (number_is ∙ z))) ∙ w.rest
+    pub reading_stop :
+        {x : Refusal} (q : Result Read Refusal) →
+        q ≡ Err x →
+        numbers x ≡ r →
+        table_read q ≡ rows_from 64 n start (drop start t)
+    reading_stop {x} q k m =
+        let counts = refusal_counts x in
+        let number : (numbers x).number ≡ r.number = ap (λ (y : Numbers). y.number) m in
+        ap table_read k ∙ ap refuse_table (m ∙ fault-is)
+        ∙ sym (rows_from-stop left n at (drop at t) some (λ z. counts (number ∙ number_is ∙ z)))
+        ∙ w.rest
 
     module _ (h : r.number ≡ 0) where
       sound : SoundRow left n at (drop at t)

@@ -1,13 +1,13 @@
 -- Tables: what one is, its bytes, what it says of a situation, and how bytes are read as one.
-use Rattle.std.specs.Prelude.{ℕ, zero, suc, ◌+◌, ◌-◌, ◌≤◌, ◌<◌, ◌≡◌, cond, List, [], ◌∷◌, ◌++◌, T, eqb, length, drop}
-use Rattle.refusals.specs.Meaning.{none, after}
+use Rattle.std.specs.Prelude.{ℕ, zero, suc, ◌+◌, ◌-◌, ◌≤◌, ◌<◌, ◌≡◌, cond, List, [], ◌∷◌, ◌++◌, T, eqb, length, drop, Result}
+use Rattle.refusals.specs.Meaning.{Numbers, none, after, replied}
 use Rattle.refusals.specs.declared.Refusal.{Refusal}
 use Rattle.fields.specs.Meaning.{field}
 use Rattle.answers.specs.declared.Answer.{Answer}
 use Rattle.faults.specs.Meaning.{columns_of, columns_fault, row_fault}
 use Rattle.defaults.specs.Meaning.{Default, default_answer, default_field, default_size, default_in, default_fault}
 use Rattle.rows.specs.Meaning.{Row, row, matches, row_fields, row_width, rows_in, Disagree, first_overlap}
-use Rattle.tables.specs.declared.TableRead.{TableRead}
+use Rattle.tables.specs.declared.Read.{Read}
 
 -- What a table is.
 
@@ -74,12 +74,22 @@ table_of t =
 
 -- How bytes are read. The faults of one field are those of faults.
 
+-- What reading replies: the number of columns and of rows.
+pub record TableRead : Type 0 where
+  pub refusal : Numbers
+  pub columns : ℕ
+  pub rows : ℕ
+
 -- "A refusal returns .. any other result number 0."
-abbrev pub refuse_table : Refusal → TableRead
+abbrev pub refuse_table : Numbers → TableRead
 refuse_table r = record { refusal = r; columns = 0; rows = 0 }
 
 abbrev pub accept_table : ℕ → ℕ → TableRead
 accept_table n rows = record { refusal = none; columns = n; rows = rows }
+
+-- The same of a result.
+abbrev pub table_read : Result Read Refusal → TableRead
+table_read = replied (λ r. accept_table r.columns r.rows) refuse_table
 
 -- "Read from the front": the row that a part starts with, then the part behind that row.
 unfoldable pub rows_from : ℕ → ℕ → ℕ → List ℕ → TableRead

@@ -12,61 +12,40 @@
 ghost use Rattle.std.specs.Prelude.{◌≡◌, ◌≤◌, drop};
 ghost use Rattle.faults.specs.Meaning.{columns_of};
 ghost use Rattle.defaults.specs.Meaning.{default_answer, default_in};
-ghost use Rattle.tables.specs.Meaning.{behind_columns, rows_start, rows_part, refuse_table, rows_from, fields_of, read_of};
+ghost use Rattle.tables.specs.Meaning.{behind_columns, rows_start, rows_part, rows_from, fields_of, read_of, table_read};
 
 use answers::Answer;
 use fields::HEADER;
-use refusals::{Refusal, none};
-use rows::BESIDE_CELLS;
+use refusals::Refusal;
+use rows::{BESIDE_CELLS, Rows};
 
 const MOST_ROWS: usize = 64;
 
 // The length of the columns field: a header and one byte.
 const COLUMNS_FIELD: usize = 4;
 
-// What reading gives: the number of columns and of rows, both 0 in a refusal.
+// What was read: how many columns a table has, and how many rows.
 #[derive(Clone, Copy)]
-pub struct TableRead {
-    pub refusal: Refusal,
+pub struct Read {
     pub columns: usize,
     pub rows: usize,
-}
-
-fn refuse(refusal: Refusal) -> TableRead
-    ensures { result ≡ refuse_table refusal }
-{
-    TableRead {
-        refusal,
-        columns: 0,
-        rows: 0,
-    }
-}
-
-// A byte as a number that rows can be counted with.
-fn wide(byte: u8) -> usize
-    ensures { result ≡ byte }
-{
-    byte as usize
 }
 
 // The number of columns in the first field.
 fn columns_of(table: &[u8]) -> usize
     ensures { result ≡ columns_of table.now }
 {
-    if table.len() <= HEADER {
-        return 0;
+    match table.get(HEADER) {
+        Some(columns) => *columns as usize,
+        None => 0,
     }
-    wide(table[HEADER])
 }
 
 // The part of a table behind its columns field.
 fn behind_columns(table: &[u8]) -> &[u8]
     ensures { result.now ≡ behind_columns table.now }
 {
-    if table.len() < COLUMNS_FIELD {
-        return &table[..0];
-    }
-    &table[COLUMNS_FIELD..]
+    table.get(COLUMNS_FIELD..).unwrap_or(&[])
 }
 
 // The answer where no row matches.
@@ -87,62 +66,45 @@ fn rows_start(table: &[u8]) -> usize
 pub fn rows_of(table: &[u8]) -> &[u8]
     ensures { result.now ≡ rows_part table.now }
 {
-    let start = rows_start(table);
-    if table.len() < start {
-        return &table[..0];
-    }
-    &table[start..]
+    table.get(rows_start(table)..).unwrap_or(&[])
 }
 
-// The rows of a table from an offset on, one after another.
-fn read_rows(table: &[u8], n: usize, start: usize) -> TableRead
+// The rows of a table from an offset on, one after another. (A `while`, since a step is a row's length and counts one row less.)
+fn read_rows(table: &[u8], n: usize, start: usize) -> Result<Read, Refusal>
     requires { (n ≤ 6) × (start ≤ 8) }
-    ensures { result ≡ rows_from 64 n start (drop start table.now) }
+    ensures { table_read result ≡ rows_from 64 n start (drop start table.now) }
 {
     let mut at = start;
     let mut left = MOST_ROWS;
     while at < table.len() {
-        let fault = faults::row_fault(&table[at..], n, at, left);
-        if fault.number != 0 {
-            return refuse(fault);
-        }
+        faults::check_row(&table[at..], n, at, left)?;
         at += n + BESIDE_CELLS;
         left -= 1;
     }
-    TableRead {
-        refusal: none(),
+    Ok(Read {
         columns: n,
         rows: MOST_ROWS - left,
-    }
+    })
 }
 
 // All fields.
-fn read_fields(table: &[u8]) -> TableRead
-    ensures { result ≡ fields_of table.now }
+fn read_fields(table: &[u8]) -> Result<Read, Refusal>
+    ensures { table_read result ≡ fields_of table.now }
 {
-    let fault = faults::columns_fault(table);
-    if fault.number != 0 {
-        return refuse(fault);
-    }
-    let default_fault = defaults::fault(behind_columns(table));
-    if default_fault.number != 0 {
-        return refuse(default_fault);
-    }
+    faults::check_columns(table)?;
+    defaults::check(behind_columns(table))?;
     read_rows(table, columns_of(table), rows_start(table))
 }
 
 // Reads a table: its fields, then the search for two rows that disagree.
-pub fn read_table(table: &[u8]) -> TableRead
-    ensures { result ≡ read_of table.now }
+pub fn read_table(table: &[u8]) -> Result<Read, Refusal>
+    ensures { table_read result ≡ read_of table.now }
 {
-    let fields = read_fields(table);
-    let fault = fields.refusal;
-    if fault.number != 0 {
-        return refuse(fault);
-    }
-    let overlap = rows::first_overlap(rows_of(table), columns_of(table));
-    if overlap.number != 0 {
-        return refuse(overlap);
-    }
-    fields
+    let read = read_fields(table)?;
+    let rows = Rows {
+        bytes: rows_of(table),
+        columns: columns_of(table),
+    };
+    rows.check_overlap()?;
+    Ok(read)
 }

@@ -1,6 +1,6 @@
 -- Numbers in decimal: how many digits they have, and how they are spelled from the last one on.
 use Prim.Native.Nat.{ℕ, zero, suc, ◌+◌, ◌-◌, ◌/◌, ◌%◌, ◌^◌, ◌≤◌, ◌<◌}
-use mathlib.Core.Path.{◌≡◌, sym, ◌∙◌}
+use mathlib.Core.Path.{◌≡◌, ◌∙◌}
 use mathlib.Core.Bool.{Bool, true, false, cond}
 use mathlib.Core.List.{List, [], ◌∷◌}
 use lib.Dec.{ltb}
@@ -9,9 +9,11 @@ use lib.Seq.{drop-cons, drop-set-lt, get_or-set_same, take_all}
 use borrow.Author.Tests.{lt-ltb, le-ltb}
 use native.Mathlib.Nat.{pow-suc}
 use native.Mathlib.Omega.{arith}
-use Rattle.text.specs.Meaning.{Printed, decimal_onto, decimal, number_text}
+use Rattle.refusals.specs.Meaning.{Numbers}
+use Rattle.text.specs.declared.pages.Page.{Page}
+use Rattle.text.specs.Meaning.{Wrote, decimal_onto, decimal, number_text, refused_word, refusal_line}
 use Rattle.text.specs.Inside.{Spelled, Spelling}
-use Rattle.text.proofs.Printing.{printed_then}
+use Rattle.text.proofs.Printing.{wrote_then}
 
 cond-length : (b : Bool) (xs ys : List ℕ) (most : ℕ) → length xs ≤ most → length ys ≤ most → length (cond b xs ys) ≤ most
 cond-length true xs ys most h k = h
@@ -49,68 +51,77 @@ unfolding number_text decimal
 number_text-length n end = let digits = fuel_length 20 n [] in simp length-append (omega arith)
 
 -- spelling
-pub spelling_start : (n : ℕ) (digits : List ℕ) → n < 2 ^ 64 → length digits ≡ 20 → Spelling n n digits 20
+pub spelling_start : (n : ℕ) (digits : List ℕ) → length digits ≡ 20 → Spelling n n digits 20
 unfolding decimal
-spelling_start n digits h e =
-    record { size = e; some = omega arith; inside = omega arith; small = omega arith; left = rw (drop_of_length-le digits {i = 20} (omega arith)) }
+spelling_start n digits e =
+    record { size = e; inside = omega arith; left = rw (drop_of_length-le digits {i = 20} (omega arith)) }
 
 drop-set : (l : List ℕ) (k d : ℕ) → k < length l → drop k (set l k d) ≡ d ∷ drop (suc k) l
 drop-set l k d h =
     let long : k < length (set l k d) = rw length-set h in
     drop-cons (set l k d) k 0 long ∙ (rw (get_or-set_same l k d 0 h, drop-set-lt (suc k) l k d (omega arith)))
 
-two-places : (k rest : ℕ) → rest < 10 ^ suc k → 10 ≤ rest → 1 ≤ k
-two-places zero rest h l = absurd (omega arith)
-two-places (suc k) rest h l = omega arith
-
-module _ (n rest : ℕ) {digits : List ℕ} (at : ℕ) (w : Spelling n rest digits at) where
+module _ (n rest : ℕ) {digits : List ℕ} (at : ℕ) (w : Spelling n rest digits at) (some : 0 < at) where
   last_place : at ≡ suc (at - 1)
-  last_place = let s = w.some in omega arith
-
-  small-place : rest < 10 ^ suc (at - 1)
-  small-place = rw (← last_place) w.small
+  last_place = omega arith
 
   inside-place : at - 1 < length digits
-  inside-place = let s = w.some in let i = w.inside in let z = w.size in omega arith
+  inside-place = let i = w.inside in let z = w.size in omega arith
 
   whole-left : decimal_onto (suc (at - 1)) rest (drop (suc (at - 1)) digits) ≡ decimal n
   whole-left = rw (← last_place) w.left
 
-  pub spelling_more : 10 ≤ rest → {d : ℕ} → d ≡ 48 + rest % 10 → Spelling n (rest / 10) (set digits (at - 1) d) (at - 1)
+  pub spelling_more : (rest / 10 ≡ 0 → ⊥) → Spelling n (rest / 10) (set digits (at - 1) (48 + rest % 10)) (at - 1)
   unfolding decimal_onto
-  spelling_more l {d} e =
+  spelling_more l =
       record {
-        size = length-set digits (at - 1) d ∙ w.size;
-        some = two-places (at - 1) rest small-place l;
+        size = length-set digits (at - 1) (48 + rest % 10) ∙ w.size;
         inside = let i = w.inside in omega arith;
-        small = let s = small-place in omega (arith, pow-suc 10 (at - 1));
-        left =
-            rw (drop-set digits (at - 1) d inside-place, e) (rw (le-ltb rest 10 l) at whole-left);
+        left = rw (drop-set digits (at - 1) (48 + rest % 10) inside-place) (rw (le-ltb rest 10 (omega (arith, l))) at whole-left);
       }
 
-  pub spelling_end : rest < 10 → {d : ℕ} → d ≡ 48 + rest → Spelled n (set digits (at - 1) d) (at - 1)
+  pub spelling_end : rest / 10 ≡ 0 → Spelled n (set digits (at - 1) (48 + rest % 10)) (at - 1)
   unfolding decimal_onto
-  spelling_end l {d} e =
+  spelling_end l =
+      let small : rest < 10 = omega arith in
+      let same : rest % 10 ≡ rest = omega arith in
       record {
-        size = length-set digits (at - 1) d ∙ w.size;
+        size = length-set digits (at - 1) (48 + rest % 10) ∙ w.size;
         inside = let i = w.inside in omega arith;
-        all =
-            rw (drop-set digits (at - 1) d inside-place, e) (rw (lt-ltb rest 10 l) at whole-left);
+        all = rw (drop-set digits (at - 1) (48 + rest % 10) inside-place, same) (rw (lt-ltb rest 10 small) at whole-left);
       }
 
-  pub spelling_long : (old : List ℕ) (d : ℕ) → length old ≡ 20 → length (set digits (at - 1) d) ≡ length old
-  spelling_long old d e = length-set digits (at - 1) d ∙ w.size ∙ sym e
+-- a number that has a digit in each of the 20 places
+pub spelling_full : (n rest : ℕ) {digits : List ℕ} (at : ℕ) → Spelling n rest digits at → at ≤ 0 → Spelled n digits 0
+unfolding decimal_onto
+spelling_full n rest {digits} at w l =
+    let none : at ≡ 0 = omega arith in
+    record { size = w.size; inside = omega arith; all = rw none at w.left }
 
 -- a number and the byte behind it, from its digits
-pub number_printed :
+pub number_wrote :
     (n : ℕ) {digits : List ℕ} {first : ℕ} →
     Spelled n digits first →
-    (end : ℕ) {at m r : ℕ} {b c d : List ℕ} →
-    Printed b at (take (20 - first) (drop first digits)) c m →
-    Printed c m (end ∷ []) d r →
-    Printed b at (number_text n end) d r
+    (end : ℕ) {p q r : Page} →
+    Wrote p (take (20 - first) (drop first digits)) q →
+    Wrote q (end ∷ []) r →
+    Wrote p (number_text n end) r
 unfolding number_text
-number_printed n {digits} {first} s end v w =
+number_wrote n {digits} {first} s end v w =
     let long : length (drop first digits) ≤ 20 - first = rw length-drop (let z = s.size in omega arith) in
     let part : take (20 - first) (drop first digits) ≡ decimal n = take_all (20 - first) (drop first digits) long ∙ s.all in
-    printed_then (rw part at v) w
+    wrote_then (rw part at v) w
+
+-- the three numbers of a refusal
+pub refusal_wrote :
+    (n : Numbers) {k : ℕ} {p q r s t : Page} →
+    k ≡ n.number →
+    Wrote p refused_word q →
+    Wrote q (number_text k 32) r →
+    Wrote r (number_text n.place 32) s →
+    Wrote s (number_text n.second 10) t →
+    Wrote p (refusal_line n) t
+unfolding refusal_line
+refusal_wrote n {q = q} {r = r} e v w x y =
+    let number : Wrote q (number_text n.number 32) r = rw (← e) w in
+    wrote_then (wrote_then (wrote_then v number) x) y

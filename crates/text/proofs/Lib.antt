@@ -1,3 +1,2 @@
 pub mod Printing
 pub mod Decimals
-pub mod Lines

@@ -1,18 +1,18 @@
 -- Text written behind text, and the loop that copies a part.
-use Prim.Native.Nat.{ℕ, suc, ◌+◌, ◌≤◌, ◌<◌, min}
+use Prim.Native.Nat.{ℕ, suc, ◌+◌, ◌-◌, ◌≤◌, min}
 use mathlib.Core.Path.{◌≡◌, refl, ap, sym, ◌∙◌}
 use mathlib.Core.Bool.{Bool, true, false}
-use mathlib.Core.List.{List, [], ◌∷◌, ◌++◌}
+use mathlib.Core.List.{List, [], ◌∷◌, ◌++◌, append_assoc}
 use lib.Dec.{ltb}
-use lib.ListN.{length, take, get_or, set, length-append}
-use lib.Seq.{sets, length-sets, length-take-le, set_out, take-suc, take_all}
+use lib.ListN.{length, take, drop, length-append, take-append-drop}
+use lib.Seq.{sets, sets-eq, length-sets, length-take-le, set_out, take_all, drop-drop}
+use borrow.Rule.Slice.PartMut.{put_mid}
 use borrow.Author.Tests.{ltb-true, ltb-false}
 use native.Mathlib.Nat.{add-zero}
-use native.Mathlib.Numerals.{add-one}
 use native.Mathlib.Omega.{arith}
 use Rattle.lent.proofs.Laws.{sets_append}
-use Rattle.text.specs.Meaning.{Printed}
-use Rattle.text.specs.Inside.{Copying}
+use Rattle.text.specs.declared.pages.Page.{Page}
+use Rattle.text.specs.Meaning.{Printed, Wrote}
 
 -- what is written behind the end changes nothing
 sets_out : (l : List ℕ) (i : ℕ) (xs : List ℕ) → length l ≤ i → sets l i xs ≡ l
@@ -49,25 +49,70 @@ printed_part {b} {c} {xs} {at} {r} v =
     let e = v.ends in
     sym (length-take-le r c (omega arith))
 
--- one byte
-pub printed_byte : (b : List ℕ) (at x : ℕ) → at < length b → Printed b at (x ∷ []) (set b at x) (at + 1)
-printed_byte b at x h = record { ends = omega arith; holds = refl }
+-- what has no room is cut off
+sets_cut : (b part : List ℕ) (at count : ℕ) → length b ≤ at + count → count ≤ length part → sets b at (take count part) ≡ sets b at part
+sets_cut b part at count full few =
+    let size : length (take count part) ≡ count = length-take-le count part few in
+    let long = length-sets b at (take count part) in
+    sym (sets_out (sets b at (take count part)) (at + length (take count part)) (drop count part) (omega arith))
+    ∙ sym (sets_append b at (take count part) (drop count part))
+    ∙ ap (sets b at) (take-append-drop count part)
 
-pub printed_out : (b : List ℕ) (at x : ℕ) → length b ≤ at → Printed b at (x ∷ []) b (length b)
-printed_out b at x h = record { ends = omega arith; holds = sym (set_out b at x h) }
+-- bytes in the place of others, as many as there is room for
+module _ (b part : List ℕ) (at : ℕ) {start count : ℕ} (e : start ≡ min at (length b)) (f : count ≡ min (length part) (length b - start)) where
+  front_size : length (take count part) ≡ count
+  front_size = length-take-le count part (omega arith)
 
--- copying a part
-pub copying_start : (part b : List ℕ) {at r : ℕ} → r ≡ min (length b) at → Copying part b at b r 0
-copying_start part b e = record { inside = omega arith; so_far = printed_none b e }
+  front_put : put_mid start (start + count - start) b (take count part) ≡ sets b start (take count part)
+  front_put =
+      let size = front_size in
+      let whole : start + length (take count part) ≤ length b = omega arith in
+      let same : start + (start + count - start) ≡ start + length (take count part) = omega arith in
+      rw (sets-eq (take count part) b start whole, drop-drop, same) (sym (append_assoc (take start b) (take count part) _))
 
-module _ (part : List ℕ) {old new : List ℕ} {at next : ℕ} (i : ℕ) (w : Copying part old at new next i) where
-  pub copying_more :
-      i < length part → {c : List ℕ} {m : ℕ} → Printed new next (get_or part i 0 ∷ []) c m → Copying part old at c m (i + 1)
-  copying_more l v =
-      record { inside = omega arith; so_far = rw (add-one i, take-suc part i 0 l) (printed_then w.so_far v) }
+  front_all : sets b start (take count part) ≡ sets b at part
+  front_all = go (ltb (length b) at) refl
+    where
+      go : (far : Bool) → ltb (length b) at ≡ far → sets b start (take count part) ≡ sets b at part
+      go true h =
+          let past = ltb-true (length b) at h in
+          sets_out b start (take count part) (omega arith) ∙ sym (sets_out b at part (omega arith))
+      go false h =
+          let near = ltb-false (length b) at h in
+          let same : start ≡ at = omega arith in
+          rw same (fits (ltb (length b) (at + length part)) refl near)
+        where
+          fits : (cut : Bool) → ltb (length b) (at + length part) ≡ cut → at ≤ length b → sets b at (take count part) ≡ sets b at part
+          fits true i near =
+              let past = ltb-true (length b) (at + length part) i in
+              sets_cut b part at count (omega arith) (omega arith)
+          fits false i near =
+              let room = ltb-false (length b) (at + length part) i in
+              ap (sets b at) (take_all count part (omega arith))
 
-  pub copying_long : length new ≡ length old
-  copying_long = ap length w.so_far.holds ∙ length-sets old at (take i part)
+  pub printed_over : {c : List ℕ} → c ≡ take count part → Printed b at part (put_mid start (start + count - start) b c) (start + count)
+  printed_over {c} h = record { ends = omega arith; holds = rw h (front_put ∙ front_all) }
 
-  pub copying_done : length part ≤ i → Printed old at part new next
-  copying_done l = rw (take_all i part l) at w.so_far
+-- the same of pages
+pub wrote_none : (p : Page) → Wrote p [] p
+wrote_none p = record { printed = printed_none p.text.now (omega (arith, p.inside)); same = refl }
+
+pub wrote_then : {p q r : Page} {xs ys : List ℕ} → Wrote p xs q → Wrote q ys r → Wrote p (xs ++ ys) r
+wrote_then v w = record { printed = printed_then v.printed w.printed; same = w.same ∙ v.same }
+
+-- what is written on a page that goes on at a place stands in the buffer from that place on
+pub printed_opened : (b xs : List ℕ) (at : ℕ) {c : List ℕ} {next : ℕ} → Printed b (min (length b) at) xs c next → Printed b at xs c next
+printed_opened b xs at {c} {next} p = go (ltb (length b) at) refl
+  where
+    go : (far : Bool) → ltb (length b) at ≡ far → Printed b at xs c next
+    go true h =
+        let past = ltb-true (length b) at h in
+        let ends = p.ends in
+        record {
+          ends = omega arith;
+          holds = p.holds ∙ (sets_out b (min (length b) at) xs (omega arith) ∙ sym (sets_out b at xs (omega arith)));
+        }
+    go false h =
+        let near = ltb-false (length b) at h in
+        let same : min (length b) at ≡ at = omega arith in
+        rw same at p

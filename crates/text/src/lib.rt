@@ -1,98 +1,46 @@
 // Text: words and numbers in decimal, written one behind another into a lent buffer.
 //
-// Each function writes from a place on and returns the place behind what it wrote. It promises that exactly this text then
-// stands there and no other byte has changed; where the buffer ends first, the text is cut off there, and so is the place.
-// It refuses nothing.
+// `put_bytes` writes from a place on and returns the place behind what it wrote. It promises that exactly these bytes then
+// stand there and no other byte has changed; where the buffer ends first, they are cut off there, and so is the place.
+// A `Page` keeps the buffer and the place together, and each of its methods promises the same of its text. Nothing is refused.
 
 #![tactic(auto)]
 
-ghost use Rattle.std.specs.Prelude.{◌≡◌, [], ◌∷◌, ◌+◌, ◌<◌, min, length};
-ghost use Rattle.text.specs.Meaning.{Printed, number_text, line, refusal_line};
+ghost use Rattle.std.specs.Prelude.{◌≡◌, ◌≤◌, length, take};
+ghost use Rattle.text.specs.Meaning.{Printed};
 ghost use Rattle.text.specs.Inside.{Spelled};
 
-use refusals::Refusal;
+mod pages;
+
+pub use pages::Page;
 
 pub const SPACE: u8 = 32;
 
 pub const LINE_FEED: u8 = 10;
 
-// A place, or the buffer's end where that comes first.
-fn within(at: usize, end: usize) -> usize
-    ensures { result ≡ min end at }
-{
-    if at < end { at } else { end }
-}
-
-fn put_byte(text: &mut [u8], at: usize, byte: u8) -> usize
-    ensures { Printed text.old at (byte ∷ []) text.new result }
-{
-    if at < text.len() {
-        text[at] = byte;
-        return at + 1;
-    }
-    text.len()
-}
-
+// Bytes, as many of them as the buffer has room for.
 pub fn put_bytes(text: &mut [u8], at: usize, part: &[u8]) -> usize
     ensures { Printed text.old at part.now text.new result }
 {
-    let mut next = within(at, text.len());
-    let mut i = 0;
-    while i < part.len() {
-        next = put_byte(text, next, part[i]);
-        i += 1;
-    }
-    next
+    let start = at.min(text.len());
+    let count = part.len().min(text.len() - start);
+    let end = start + count;
+    text[start..end].copy_from_slice(&part[..count]);
+    end
 }
 
-fn digit(n: usize) -> u8
-    requires { n < 10 }
-    ensures { result ≡ 48 + n }
-{
-    48 + n as u8
-}
-
-// The digits of a number from the end of 20 bytes on, the last one first. Returns where the first one stands.
-fn spell(n: usize, digits: &mut [u8]) -> usize
-    requires { length digits.old ≡ 20 }
+// The digits of a number at the end of 20 bytes, written from the last one on. Returns where the first one stands.
+// By hand: `write!` promises its bytes only where no write fails, and never that none does; here they always stand there.
+pub(crate) fn spell(n: usize, digits: &mut [u8; 20]) -> usize
     ensures { Spelled n digits.new result }
 {
-    let mut at = 20;
     let mut rest = n;
-    while 10 <= rest {
-        at -= 1;
-        digits[at] = digit(rest % 10);
+    for at in (0..20).rev() {
+        digits[at] = b'0' + (rest % 10) as u8;
         rest /= 10;
+        if rest == 0 {
+            return at;
+        }
     }
-    at -= 1;
-    digits[at] = digit(rest);
-    at
-}
-
-// A number in decimal, and the byte behind it.
-pub fn put_number(text: &mut [u8], at: usize, n: usize, end: u8) -> usize
-    ensures { Printed text.old at (number_text n end) text.new result }
-{
-    let mut digits = [0u8; 20];
-    let first = spell(n, &mut digits);
-    let next = put_bytes(text, at, &digits[first..]);
-    put_byte(text, next, end)
-}
-
-// A word and a number as a line.
-pub fn put_line(text: &mut [u8], at: usize, word: &[u8], n: usize) -> usize
-    ensures { Printed text.old at (line word.now n) text.new result }
-{
-    let next = put_bytes(text, at, word);
-    put_number(text, next, n, LINE_FEED)
-}
-
-// The one line that a refusal prints.
-pub fn put_refusal(text: &mut [u8], at: usize, refusal: Refusal) -> usize
-    ensures { Printed text.old at (refusal_line refusal) text.new result }
-{
-    let start = put_bytes(text, at, b"refused ");
-    let middle = put_number(text, start, refusal.number as usize, SPACE);
-    let end = put_number(text, middle, refusal.place, SPACE);
-    put_number(text, end, refusal.second, LINE_FEED)
+    0
 }

@@ -1,6 +1,7 @@
 -- Policies and tests: their trees, what these say and may say, how their bytes are read, and which bytes encode which tree.
-use Rattle.std.specs.Prelude.{ℕ, zero, suc, ◌+◌, ◌<◌, max, ◌≡◌, Bool, true, false, cond, not as opposite, ◌⊎◌, List, [], ◌∷◌, ◌++◌, map, ltb, leb, length, get_or}
+use Rattle.std.specs.Prelude.{ℕ, zero, suc, ◌+◌, ◌<◌, max, ◌≡◌, Bool, true, false, cond, not as opposite, ◌⊎◌, List, [], ◌∷◌, ◌++◌, map, Option, Some, None, Result, ltb, leb, length, get_or}
 use Rattle.refusals.specs.declared.Refusal.{Refusal}
+use Rattle.refusals.specs.Meaning.{Numbers, replied}
 use Rattle.refusals.specs.Meaning as refusal
 use Rattle.answers.specs.declared.Answer.{Answer}
 use Rattle.answers.specs.declared.Answer.TheVariants.{Silent}
@@ -10,8 +11,6 @@ use Rattle.answers.specs.declared.operators.Two.{Two}
 use Rattle.answers.specs.Meaning.{apply_one, apply_two}
 use Rattle.fields.specs.Meaning.{two_at, four_at, two_bytes, four_bytes}
 use Rattle.notices.specs.declared.Comparison.{Comparison}
-use Rattle.notices.specs.declared.Seen.{Seen}
-use Rattle.notices.specs.declared.Seen.TheVariants.{Value, Absent}
 use Rattle.notices.specs.Meaning as notice
 use Rattle.codes.specs.declared.Joint.{Joint}
 use Rattle.codes.specs.declared.PolicyKind.{PolicyKind}
@@ -76,9 +75,9 @@ abbrev pub Choice : Type 0
 Choice = Place → Bool
 
 -- Document 01's rules under a choice: wherever the comparison stands, the fact is looked up.
-abbrev pub compare_seen : Bool → Comparison → Seen → ℕ → Bool
-compare_seen chosen c Absent value = chosen
-compare_seen chosen c (Value x) value = notice.compare c x value
+abbrev pub compare_seen : Bool → Comparison → Option ℕ → ℕ → Bool
+compare_seen chosen c None value = chosen
+compare_seen chosen c (Some x) value = notice.compare c x value
 
 abbrev pub under : List notice.Fact → Choice → Leaf
 under facts choice place c fact value = compare_seen (choice place) c (notice.seen facts fact) value
@@ -88,9 +87,9 @@ abbrev pub always_false : Choice
 always_false place = false
 
 -- What a comparison may come to: with an absent fact "it may be true or false".
-abbrev pub may_compare : Comparison → Seen → ℕ → List Bool
-may_compare c Absent value = false ∷ true ∷ []
-may_compare c (Value x) value = notice.compare c x value ∷ []
+abbrev pub may_compare : Comparison → Option ℕ → ℕ → List Bool
+may_compare c None value = false ∷ true ∷ []
+may_compare c (Some x) value = notice.compare c x value ∷ []
 
 -- What a policy may say of facts, and what a test may be: "operators act on every pair of possible operands", "The presence
 -- test stays certain."
@@ -119,13 +118,13 @@ unfoldable mutual
   pub TestCertain : List notice.Fact → Test → Type 0
   TestCertain facts (not t) = TestCertain facts t
   TestCertain facts (joint j t u) = TestCertain facts t × TestCertain facts u
-  TestCertain facts (comparison c fact value) = notice.seen facts fact ≡ Absent → ⊥
+  TestCertain facts (comparison c fact value) = notice.seen facts fact ≡ None → ⊥
   TestCertain facts (present fact) = Unit
   TestCertain facts (answers a p) = PolicyCertain facts p
 
 -- The second list says all that the first says: of each fact the first says nothing, or both say the same.
 abbrev pub Gains : List notice.Fact → List notice.Fact → Type 0
-Gains fs gs = (fact : ℕ) → (notice.seen fs fact ≡ Absent) ⊎ (notice.seen gs fact ≡ notice.seen fs fact)
+Gains fs gs = (fact : ℕ) → (notice.seen fs fact ≡ None) ⊎ (notice.seen gs fact ≡ notice.seen fs fact)
 
 -- No test for presence asks for a fact that the second list has and the first has not.
 unfoldable mutual
@@ -145,7 +144,11 @@ unfoldable mutual
 -- What reading gives: a tree and the offset after it, or why it is refused.
 pub data Read (A : Type 0) : Type 0 where
   made : A → ℕ → Read A
-  refused : Refusal → Read A
+  refused : Numbers → Read A
+
+-- The same of a result.
+abbrev pub reading : {A : Type 0} → Result (A × ℕ) Refusal → Read A
+reading = replied (λ x. made x.0 x.1) refused
 
 abbrev pub and_then : {A B : Type 0} → Read A → (A → ℕ → Read B) → Read B
 and_then (made a next) onward = onward a next

@@ -1,22 +1,11 @@
 -- What a test may be: a set of truths.
-use Rattle.std.specs.Prelude.{ℕ, Bool, true, false, ◌&&◌, ◌||◌, List, [], ◌∷◌, ◌++◌, eqb}
+use Rattle.std.specs.Prelude.{Bool, true, false, ◌&&◌, ◌||◌, List, [], ◌∷◌, ◌++◌, eqb}
 use Rattle.answers.specs.declared.Answer.{Answer}
 use Rattle.answers.specs.declared.Answer.TheVariants.{Silent}
 use Rattle.answers.specs.Meaning.{number}
 use Rattle.codes.specs.declared.Joint.{Joint}
 use Rattle.codes.specs.declared.Joint.TheVariants.{And, Or}
-use Rattle.sets.specs.Meaning.{set_of, members}
-
--- A set of truths as a number: false 1, true 2.
-abbrev pub truth_number : Bool → ℕ
-truth_number false = 0
-truth_number true = 1
-
-abbrev pub truth_set : List Bool → ℕ
-truth_set = set_of truth_number
-
-abbrev pub truths_in : ℕ → List Bool
-truths_in = members truth_number (false ∷ true ∷ [])
+pub use Rattle.sets.specs.Meaning.{truth_number, truth_set, truths_in}
 
 -- "41 and; 42 or"
 abbrev pub combine : Joint → Bool → Bool → Bool

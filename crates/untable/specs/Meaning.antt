@@ -4,8 +4,7 @@ use Rattle.refusals.specs.Meaning.{after}
 use Rattle.tables.specs.Meaning.{Table}
 use Rattle.nodes.specs.Meaning.{evaluate_of}
 use Rattle.growth.specs.Meaning.{answer_at}
-use Rattle.listing.specs.declared.Written.{Written}
-use Rattle.listing.specs.Meaning.{listed, refuse_written, list_of}
+use Rattle.listing.specs.Meaning.{Written, listed, refuse_written, list_of}
 
 -- "From an array and a column count, write a table": the one that lists what the array answers.
 abbrev pub table_back : List ℕ → ℕ → Table

@@ -11,23 +11,17 @@
 #![tactic(auto)]
 
 ghost use Rattle.std.specs.Prelude.{◌≡◌, length};
-ghost use Rattle.listing.specs.Meaning.{written_of};
+ghost use Rattle.listing.specs.Meaning.{wrote, written_of};
 ghost use Rattle.untable.specs.Meaning.{table_back, untable_of};
 
-use listing::Written;
+use refusals::Refusal;
 
-// Writes the table of an array's answers.
+// Writes the table of an array's answers. Returns how many bytes stand at the buffer's front.
 #[tactic(auto, using(crate::proofs::Listed::untable_laws))]
-pub fn untable(nodes: &[u8], columns: usize, table: &mut [u8]) -> Written
-    ensures reply { result ≡ untable_of nodes.now columns (length table.old) }
-    ensures written { table.new ≡ written_of (table_back nodes.now columns) result table.old }
+pub fn untable(nodes: &[u8], columns: usize, table: &mut [u8]) -> Result<usize, Refusal>
+    ensures reply { wrote result ≡ untable_of nodes.now columns (length table.old) }
+    ensures written { table.new ≡ written_of (table_back nodes.now columns) (wrote result) table.old }
 {
-    let planes = planes::fill(nodes, columns);
-    let refusal = planes.refusal;
-    if refusal.number != 0 {
-        return listing::refuse(refusal);
-    }
-    let bury = planes.bury;
-    let keep = planes.keep;
-    listing::list(&bury, &keep, columns, table)
+    let planes = planes::fill(nodes, columns)?;
+    listing::list(&planes, columns, table)
 }

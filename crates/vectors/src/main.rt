@@ -22,16 +22,12 @@ const LINES: u64 = 1000000000;
 
 // Whether there was a line.
 fn run<R: Read>(rt: &impl Print, source: &mut R) -> io::Result<bool> {
-    let mut line = [0u8; LINE];
-    let read = reading::line(source, &mut line);
-    if let Some(error) = read.failed {
-        return Err(error);
-    }
-    let count = read.count;
-    if count == 0 {
+    let mut room = [0u8; LINE];
+    let line = reading::line(source, &mut room)?;
+    if line.is_empty() {
         return Ok(false);
     }
-    calls::call(rt, &line[..count])?;
+    calls::call(rt, line)?;
     Ok(true)
 }
 

@@ -1,40 +1,39 @@
 // Replies, written.
 use carmuspeno::{CarmAnswer, CarmSituation};
-use std::io;
+use std::{fmt, io};
 
-pub fn text(rt: &impl Print, text: &[u8]) -> io::Result<()> {
-    rt.write_all(text)
-}
+// A situation by value: its length, and its six bytes in hex.
+#[derive(Clone, Copy)]
+pub struct Shown(pub CarmSituation);
 
-pub fn next(rt: &impl Print, n: u64) -> io::Result<()> {
-    print!(rt; " {n}")
-}
-
-// The three numbers that every reply starts with.
-pub fn three(rt: &impl Print, number: u64, place: u64, second: u64) -> io::Result<()> {
-    print!(rt; "{number} {place} {second}")
-}
-
-pub fn situation(rt: &impl Print, s: CarmSituation) -> io::Result<()> {
-    next(rt, s.length)?;
-    text(rt, b" ")?;
-    for answer in s.answers {
-        print!(rt; "{answer:02x}")?;
+impl fmt::Display for Shown {
+    fn fmt<W: fmt::Write>(&self, f: &mut fmt::Formatter<W>) -> fmt::Result {
+        let length = self.0.length;
+        write!(f, "{length} ")?;
+        for answer in self.0.answers {
+            write!(f, "{answer:02x}")?;
+        }
+        Ok(())
     }
-    Ok(())
 }
 
-// The counts by number.
-pub fn numbers(rt: &impl Print, by_number: [u64; 32]) -> io::Result<()> {
-    for count in by_number {
-        next(rt, count)?;
+// The counts by number, with a space before each.
+#[derive(Clone, Copy)]
+pub struct Listed(pub [u64; 32]);
+
+impl fmt::Display for Listed {
+    fn fmt<W: fmt::Write>(&self, f: &mut fmt::Formatter<W>) -> fmt::Result {
+        for count in self.0 {
+            write!(f, " {count}")?;
+        }
+        Ok(())
     }
-    Ok(())
 }
 
 // The whole line of a reply that answers.
 pub fn answer(rt: &impl Print, reply: CarmAnswer) -> io::Result<()> {
-    three(rt, reply.number, reply.place, reply.second)?;
-    next(rt, reply.answer)?;
-    text(rt, b"\n")
+    println!(rt;
+        "{} {} {} {}",
+        reply.number, reply.place, reply.second, reply.answer
+    )
 }

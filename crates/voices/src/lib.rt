@@ -11,62 +11,42 @@
 #![tactic(auto)]
 
 ghost use Rattle.std.specs.Prelude.{◌≡◌};
-ghost use Rattle.voices.specs.Meaning.{unheard, hear_of, speak_of};
+ghost use Rattle.answers.specs.Meaning.{answered};
+ghost use Rattle.voices.specs.Meaning.{hear_of, speak_of, may_answer};
 
-use answers::{Answer, Reply};
-use policies::Told;
-use refusals::{Refusal, TAIL, none, refused};
+use answers::Answer;
+use leaves::Hearing;
+use refusals::{Kind, Refusal};
 
 const LEVELS: usize = 16;
 
-// The set of possible answers, as a number (silent 1, bury 2, keep 4, clash 8), and its meet: 0 and silent in a refusal.
+// What a voice may answer: the set of its possible answers, as a number (silent 1, bury 2, keep 4, clash 8), and its meet.
 #[derive(Clone, Copy)]
-pub struct Heard {
-    pub refusal: Refusal,
+pub struct Possible {
     pub set: u8,
     pub answer: Answer,
 }
 
-fn unheard(refusal: Refusal) -> Heard
-    ensures { result ≡ unheard refusal }
-{
-    Heard {
-        refusal,
-        set: 0,
-        answer: Answer::Silent,
-    }
-}
-
 // What the voice may answer to the facts of the notice.
-pub fn speak_set(notice: &[u8], voice: &[u8]) -> Heard
-    ensures { result ≡ hear_of notice.now voice.now }
+#[tactic(auto, using(crate::proofs::Spoken::voice_laws))]
+pub fn speak_set(notice: &[u8], voice: &[u8]) -> Result<Possible, Refusal>
+    ensures { may_answer result ≡ hear_of notice.now voice.now }
 {
-    let noticed = notices::read_notice(notice);
-    let refusal = noticed.refusal;
-    if refusal.number != 0 {
-        return unheard(refusal);
+    notices::read_notice(notice)?;
+    let (set, end) = policies::policy(&Hearing { voice, notice }, 0, LEVELS)?;
+    if end < voice.len() {
+        return Err(Refusal::at(Kind::Tail, end));
     }
-    match policies::policy(voice, notice, 0, LEVELS) {
-        Told::May(set, end) => {
-            if end < voice.len() {
-                return unheard(refused(TAIL, end));
-            }
-            Heard {
-                refusal: none(),
-                set,
-                answer: sets::meet(set),
-            }
-        }
-        Told::Refused(refusal) => unheard(refusal),
-    }
+    Ok(Possible {
+        set: u8::from(set),
+        answer: sets::meet(set),
+    })
 }
 
 // What the voice's column receives.
-pub fn speak(notice: &[u8], voice: &[u8]) -> Reply
-    ensures { result ≡ speak_of notice.now voice.now }
+pub fn speak(notice: &[u8], voice: &[u8]) -> Result<Answer, Refusal>
+    ensures { answered result ≡ speak_of notice.now voice.now }
 {
-    let heard = speak_set(notice, voice);
-    let refusal = heard.refusal;
-    let answer = heard.answer;
-    Reply { refusal, answer }
+    let possible = speak_set(notice, voice)?;
+    Ok(possible.answer)
 }

@@ -1,5 +1,5 @@
-// The files that the arguments name: what cannot be read is told in one line.
-ghost use Rattle.std.specs.Prelude.{IfOk};
+// The files that the arguments name. What cannot be read is told in one line on standard error.
+ghost use Rattle.std.specs.Prelude.{◌≤◌, length, IfOk};
 ghost use Rattle.input.specs.Counts.{IsPrefixLen};
 
 use std::env::{Env, FillError};
@@ -10,8 +10,8 @@ use std::io::{Cursor, ErrorKind, Write};
 // The most voices.
 pub const VOICES: usize = 32;
 
-// Where each of them ends, and where the first one starts.
-pub const ENDS: usize = 33;
+// How many bytes all voices together may have.
+pub const STORE: usize = 65536;
 
 // The longest name of a file, and so the longest argument that is taken.
 pub const NAME: usize = 4096;
@@ -25,30 +25,28 @@ const NUMBER: &[u8] = b" (os error ";
 // The system's number for a name that is too long.
 const NAME_TOO_LONG: i32 = 36;
 
-// Where a voice ends in the store, where it was read.
+// What went wrong was told.
 #[derive(Clone, Copy)]
-struct Voice {
-    end: usize,
-    read: bool,
+pub struct Told;
+
+fn say(rt: &HostRuntime, part: &[u8]) {
+    let _ = Print::write_all(&rt.stderr(), part);
 }
 
-// Tells a line, or a part of one, on standard error. Where that fails too, nobody is left to be told.
-pub fn say(rt: &HostRuntime, line: &[u8]) {
-    let _ = Print::write_all(&rt.stderr(), line);
+// Tells a line on standard error. Where that fails too, nobody is left to be told.
+pub fn tell(rt: &HostRuntime, line: &[u8]) -> Told {
+    say(rt, line);
+    Told
 }
 
 // The text of an error without the system's number.
 fn words_of(text: &[u8]) -> &[u8] {
-    for at in 0..text.len() {
-        if text[at..].starts_with(NUMBER) {
-            return &text[..at];
-        }
-    }
-    text
+    let number = text.windows(NUMBER.len()).position(|part| part == NUMBER);
+    &text[..number.unwrap_or(text.len())]
 }
 
-// What went wrong with a file, after its name.
-pub fn fail(rt: &HostRuntime, path: &[u8], error: io::Error) {
+// Tells what went wrong with a file, after its name.
+pub fn fail(rt: &HostRuntime, path: &[u8], error: io::Error) -> Told {
     let mut text = Cursor::new([0u8; ERROR]);
     let _ = write!(text, "{error}");
     let end = text.position().min(ERROR as u64) as usize;
@@ -57,112 +55,92 @@ pub fn fail(rt: &HostRuntime, path: &[u8], error: io::Error) {
     say(rt, path);
     say(rt, b": ");
     say(rt, words_of(&bytes[..end]));
-    say(rt, b"\n");
+    tell(rt, b"\n")
 }
 
-// Puts the name that an argument gives into the buffer, and says how many bytes it has.
-pub fn put_name(rt: &HostRuntime, argument: usize, name: &mut [u8]) -> io::Result<usize>
-    ensures { IfOk result (λ length. IsPrefixLen length name.new) }
-{
-    match rt.arg(argument, name) {
-        Ok(length) => Ok(length),
+// The name that an argument gives, in the buffer.
+pub fn name_of<'a>(
+    rt: &HostRuntime,
+    argument: usize,
+    buffer: &'a mut [u8],
+) -> io::Result<&'a [u8]> {
+    match rt.arg(argument, buffer) {
+        Ok(length) => Ok(&buffer[..length]),
         Err(FillError::TooLong) => Err(io::Error::from_raw_os_error(NAME_TOO_LONG)),
         Err(FillError::NotPresent) => Err(io::Error::from(ErrorKind::NotFound)),
     }
 }
 
-// Opens a file. Its name must be UTF-8, since std opens no other.
-pub fn open(rt: &HostRuntime, path: &[u8]) -> io::Result<File> {
-    match str::from_utf8(path) {
-        Ok(name) => File::open(rt, name),
-        Err(_) => Err(io::Error::new(ErrorKind::InvalidFilename, "the name is not UTF-8")),
-    }
+// An open file, and its name for what is told of it.
+#[derive(Drop)]
+pub struct Source<'a> {
+    rt: &'a HostRuntime,
+    path: &'a [u8],
+    file: File,
 }
 
-fn unread() -> Voice {
-    Voice {
-        end: 0,
-        read: false,
-    }
-}
-
-// Reads a voice from a file into the store, behind those before it, and one byte more to see that it has ended.
-fn read_voice(rt: &HostRuntime, path: &[u8], store: &mut [u8], from: usize) -> Voice {
-    let mut file = match open(rt, path) {
-        Ok(file) => file,
-        Err(error) => {
-            fail(rt, path, error);
-            return unread();
+impl<'a> Source<'a> {
+    // The name must be UTF-8, since std opens no other.
+    pub fn open(rt: &'a HostRuntime, path: &'a [u8]) -> Result<Self, Told> {
+        let file = match str::from_utf8(path) {
+            Ok(name) => File::open(rt, name),
+            Err(_) => Err(io::Error::new(ErrorKind::InvalidFilename, "the name is not UTF-8")),
+        };
+        match file {
+            Ok(file) => Ok(Source { rt, path, file }),
+            Err(error) => Err(fail(rt, path, error)),
         }
-    };
-    let voice = input::read_file(&mut file, store, from);
-    if let Some(error) = voice.failed {
-        fail(rt, path, error);
-        return unread();
     }
-    let mut byte = [0u8; 1];
-    let behind = input::read_file(&mut file, &mut byte, 0);
-    if let Some(error) = behind.failed {
-        fail(rt, path, error);
-        return unread();
-    }
-    if behind.count != 0 {
-        say(rt, b"weekcount: the voices have more than 65536 bytes\n");
-        return unread();
-    }
-    Voice {
-        end: voice.count,
-        read: true,
-    }
-}
 
-// The voice that an argument names.
-fn read_argument(rt: &HostRuntime, argument: usize, store: &mut [u8], from: usize) -> Voice {
-    let mut path = [0u8; NAME];
-    match put_name(rt, argument, &mut path) {
-        Ok(length) => read_voice(rt, &path[..length], store, from),
-        Err(error) => {
-            fail(rt, b"the name of a voice", error);
-            unread()
+    // Reads as much as there is room for, behind bytes that are there already. These are among the count.
+    pub fn read(&mut self, room: &mut [u8], from: usize) -> Result<usize, Told>
+        ensures { IfOk result (λ count. IsPrefixLen count room.new) }
+    {
+        let read = input::read_file(&mut self.file, room, from);
+        match read.failed {
+            Some(error) => Err(fail(self.rt, self.path, error)),
+            None => Ok(read.count),
         }
     }
 }
 
-// Reads the voices into the store, one behind another, and notes where each ends: the first starts at 0. Answers whether all of
-// them are there.
-pub fn read_voices(rt: &HostRuntime, store: &mut [u8], ends: &mut [usize], voices: usize) -> bool {
-    let mut end = 0;
-    let mut i = 1;
-    while i <= voices {
-        if ends.len() <= i {
-            say(rt, b"weekcount: more than 32 voices\n");
-            return false;
-        }
-        let voice = read_argument(rt, i + 1, store, end);
-        if !voice.read {
-            return false;
-        }
-        end = voice.end;
-        ends[i] = end;
-        i += 1;
+// Reads a voice from a file, and one byte more to see that it has ended. Returns how many bytes it has.
+fn read_voice(rt: &HostRuntime, path: &[u8], room: &mut [u8]) -> Result<usize, Told>
+    ensures { IfOk result (λ length. IsPrefixLen length room.new) }
+{
+    let mut voice = Source::open(rt, path)?;
+    let length = voice.read(room, 0)?;
+    if voice.read(&mut [0u8; 1], 0)? != 0 {
+        return Err(tell(rt, b"weekcount: the voices have more than 65536 bytes\n"));
     }
-    true
+    Ok(length)
 }
 
-// Where so many voices end.
-fn end_of(ends: &[usize], voices: usize) -> usize {
-    if voices < ends.len() { ends[voices] } else { 0 }
-}
-
-// A voice in the store: no bytes where there is no such voice.
-pub fn voice_in<'a>(store: &'a [u8], ends: &[usize], voice: usize) -> &'a [u8] {
-    if VOICES <= voice {
-        return &store[..0];
+// Reads the voices that the arguments behind the batch's name, one behind another.
+pub fn read_voices<'a>(
+    rt: &HostRuntime,
+    count: usize,
+    store: &'a mut [u8],
+    voices: &mut [&'a [u8]],
+) -> Result<(), Told>
+    ensures { IfOk result (λ _. count ≤ length voices.new) }
+{
+    let most = voices.len();
+    let mut room = store;
+    for (i, voice) in voices.iter_mut().take(count).enumerate() {
+        let mut name = [0u8; NAME];
+        let path = name_of(rt, i + 2, &mut name).map_err(|error| fail(
+            rt,
+            b"the name of a voice",
+            error,
+        ))?;
+        let length = read_voice(rt, path, room)?;
+        let (read, rest) = room.split_at_mut(length);
+        *voice = read;
+        room = rest;
     }
-    let start = end_of(ends, voice);
-    let end = end_of(ends, voice + 1);
-    if start <= end && end <= store.len() {
-        return &store[start..end];
+    if most < count {
+        return Err(tell(rt, b"weekcount: more than 32 voices\n"));
     }
-    &store[..0]
+    Ok(())
 }

@@ -11,70 +11,41 @@ mod files;
 mod windows;
 
 use counts::Counts;
-use files::{ENDS, NAME, VOICES};
+use files::{NAME, STORE, Told, VOICES};
+use refusals::Refusal;
 use std::env::{Env, FillError};
 use std::io;
-use windows::Tally;
-
-// How many bytes all voices together may have.
-const STORE: usize = 65536;
+use text::Page;
 
 // A record is at most 1,200 bytes longer than its name, and a name has at most 4,096.
 const TEXT: usize = 8192;
 
 // Prints the record of the voice that an argument names.
 fn print_record(rt: &HostRuntime, argument: usize, counts: Counts) -> io::Result<()> {
-    let mut name = [0u8; NAME];
-    let length = files::put_name(rt, argument, &mut name)?;
+    let mut buffer = [0u8; NAME];
+    let name = files::name_of(rt, argument, &mut buffer)?;
     let mut text = [0u8; TEXT];
-    let end = reports::put_record(&mut text, 0, &name[..length], counts);
-    rt.write_all(&text[..end])
+    let mut page = Page::new(&mut text);
+    reports::put_record(&mut page, name, counts);
+    rt.write_all(page.written())
 }
 
-// Prints every voice's record.
-fn print_records(rt: &HostRuntime, weeks: [Counts; VOICES], voices: usize) -> io::Result<()> {
-    let mut i = 0;
-    while i < voices {
-        if VOICES <= i {
-            return Ok(());
-        }
-        let counts = weeks[i];
-        print_record(rt, i + 2, counts)?;
-        i += 1;
-    }
-    Ok(())
-}
-
-// Prints why the batch was refused, if it was.
-fn print_batch(rt: &HostRuntime, tally: Tally) -> io::Result<()> {
-    let refusal = tally.refusal;
-    if refusal.number == 0 {
-        return Ok(());
-    }
+// Prints why the batch was refused.
+fn print_batch(rt: &HostRuntime, refusal: Refusal) -> io::Result<()> {
     let mut text = [0u8; TEXT];
-    let end = reports::put_batch(&mut text, 0, refusal);
-    rt.write_all(&text[..end])
+    let mut page = Page::new(&mut text);
+    reports::put_batch(&mut page, refusal);
+    rt.write_all(page.written())
 }
 
-// Prints the records, and behind them why the batch was refused, if it was.
-fn print_week(rt: &HostRuntime, tally: Tally, voices: usize) -> io::Result<()> {
-    let weeks = tally.weeks;
-    print_records(rt, weeks, voices)?;
-    print_batch(rt, tally)
-}
-
-fn count(rt: &HostRuntime, path: &[u8], voices: usize) {
-    let mut store = [0u8; STORE];
-    let mut ends = [0usize; ENDS];
-    if !files::read_voices(rt, &mut store, &mut ends, voices) {
-        return;
+// Prints every voice's record, and behind them why the batch was refused, if it was.
+fn print_week(rt: &HostRuntime, weeks: &[Counts], refused: Option<Refusal>) -> io::Result<()> {
+    for (i, counts) in weeks.iter().enumerate() {
+        print_record(rt, i + 2, *counts)?;
     }
-    let tally = windows::count_batch(rt, path, &store, &ends, voices);
-    if tally.failed {
-        return;
-    }
-    if print_week(rt, tally, voices).is_err() {
-        files::say(rt, b"weekcount: the records could not be written\n");
+    match refused {
+        Some(refusal) => print_batch(rt, refusal),
+        None => Ok(()),
     }
 }
 
@@ -88,17 +59,32 @@ fn argument_count(env: &impl Env) -> usize {
     usize::MAX
 }
 
-fn main(rt: HostRuntime) {
-    let arguments = argument_count(&rt);
+fn run(rt: &HostRuntime) -> Result<(), Told> {
+    let arguments = argument_count(rt);
     if arguments < 3 {
-        return files::say(
-            &rt,
+        return Err(files::tell(
+            rt,
             b"weekcount: wanted are a batch and a voice or more: weekcount BATCH VOICE..\n",
-        );
+        ));
     }
-    let mut path = [0u8; NAME];
-    match files::put_name(&rt, 1, &mut path) {
-        Ok(length) => count(&rt, &path[..length], arguments - 2),
-        Err(error) => files::fail(&rt, b"the name of the batch", error),
+    let count = arguments - 2;
+    let mut buffer = [0u8; NAME];
+    let path = files::name_of(rt, 1, &mut buffer).map_err(|error| files::fail(
+        rt,
+        b"the name of the batch",
+        error,
+    ))?;
+    let mut store = [0u8; STORE];
+    let mut voices: [&[u8]; VOICES] = [&[]; VOICES];
+    files::read_voices(rt, count, &mut store, &mut voices)?;
+    let mut weeks = [counts::none(); VOICES];
+    let refused = windows::count_batch(rt, path, &voices[..count], &mut weeks[..count])?;
+    if print_week(rt, &weeks[..count], refused).is_err() {
+        return Err(files::tell(rt, b"weekcount: the records could not be written\n"));
     }
+    Ok(())
+}
+
+fn main(rt: HostRuntime) {
+    let _ = run(&rt);
 }

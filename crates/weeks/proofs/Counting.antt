@@ -1,14 +1,16 @@
 -- The loop that counts the notices of a batch.
 use Prim.Native.Nat.{ℕ, ◌+◌, ◌-◌, ◌≤◌, ◌<◌}
-use mathlib.Core.Path.{◌≡◌, refl, ap, sym, ◌∙◌}
+use mathlib.Core.Path.{◌≡◌, ap, sym, ◌∙◌}
 use mathlib.Core.Bool.{true, false}
 use mathlib.Core.List.{List, [], ◌∷◌}
 use native.Mathlib.Omega.{arith}
 use lib.ListN.{length, take, drop, length-drop, length-map}
 use lib.Seq.{drop-drop}
 use borrow.Author.Tests.{eq-eqb, ne_eqb}
+use Rattle.std.specs.Prelude.{Result, Err}
 use Rattle.refusals.specs.declared.Refusal.{Refusal}
-use Rattle.refusals.specs.Meaning.{none}
+use Rattle.refusals.specs.Meaning.{Numbers, none, numbers, checked}
+use Rattle.refusals.proofs.Checks.{refusal_counts}
 use Rattle.fields.specs.Meaning.{size}
 use Rattle.fields.proofs.Rests.{rest-is}
 use Rattle.voices.specs.Meaning.{speak_of}
@@ -21,7 +23,7 @@ use Rattle.counts.proofs.Raising.{plus_none, plus-more, plus_from_none}
 use Rattle.weeks.specs.Meaning.{replies, told, week_by, week_of, onto, onto_of}
 use Rattle.weeks.specs.Inside.{Counting}
 
-onto-stopped : (c : Counts) (voice : List ℕ) (at : ℕ) (r : Refusal) → told r c ≡ onto c (week_by voice (stopped at r))
+onto-stopped : (c : Counts) (voice : List ℕ) (at : ℕ) (r : Numbers) → told r c ≡ onto c (week_by voice (stopped at r))
 onto-stopped c voice at r = ap (told r) (sym (plus_none c))
 
 onto-followed :
@@ -39,9 +41,6 @@ onto-none batch voice =
     ap (told (read_batch batch).refusal)
     (plus_from_none (replies voice (read_batch batch).notices) (omega (arith, few, long)))
 
-pub counting_starts : (batch voice : List ℕ) (first : Counts) → Counting batch voice first first MOST 0
-counting_starts batch voice first = record { inside = omega arith; rest = refl }
-
 module _ (batch voice : List ℕ) (first : Counts) {now : Counts} {left at : ℕ} (w : Counting batch voice first now left at) where
   abbrev s : List ℕ
   s = drop at batch
@@ -50,12 +49,12 @@ module _ (batch voice : List ℕ) (first : Counts) {now : Counts} {left at : ℕ
   long = length-drop at batch
 
   -- the batch has ended
-  pub counting_ends : length batch ≤ at → {r : Refusal} → r ≡ none → told r now ≡ onto_of first batch voice
+  pub counting_ends : length batch ≤ at → {r : Numbers} → r ≡ none → told r now ≡ onto_of first batch voice
   counting_ends l q =
       let empty : due true (length s) ≡ false = rw (eq-eqb (length s) 0 (omega (arith, long))) in
       rw q (onto-stopped now voice at none ∙ sym (ap (λ (p : Part). onto now (week_by voice p)) (read_left true at s left empty)) ∙ w.rest)
 
-  module _ (l : at < length batch) {r : Refusal} (f : r ≡ fault left at (take (length batch - at) (drop at batch))) where
+  module _ (l : at < length batch) {r : Numbers} (f : r ≡ fault left at (take (length batch - at) (drop at batch))) where
     judged : due true (length s) ≡ true
     judged = rw (ne_eqb (length s) 0 (λ e. omega (arith, long, e)))
 
@@ -71,13 +70,16 @@ module _ (batch voice : List ℕ) (first : Counts) {now : Counts} {left at : ℕ
         ∙ sym (ap (λ (p : Part). onto now (week_by voice p)) (read_refused true at s left judged refuses))
         ∙ w.rest)
 
+    pub counting_refused : (q : Result Unit Refusal) (x : Refusal) → r ≡ numbers x → q ≡ Err x → told (checked q) now ≡ onto_of first batch voice
+    counting_refused q x e j =
+        ap (λ (o : Result Unit Refusal). told (checked o) now) j
+        ∙ ap (λ (n : Numbers). told n now) (sym e)
+        ∙ counting_stops (rw e (refusal_counts x))
+
     -- a notice
     module _ (k : r.number ≡ 0) where
       sound : Sound left s
       sound = fault-none left at s (rw (← fault-is) k)
-
-      pub counting_header : length batch < 18446744073709551616 → at + 3 < 18446744073709551616
-      counting_header short = let whole = sound.whole in omega (arith, long)
 
       module _ {n : ℕ} (g : n ≡ size (take (length batch - at) (drop at batch))) where
         size_is : n ≡ size s
@@ -85,12 +87,6 @@ module _ (batch voice : List ℕ) (first : Counts) {now : Counts} {left at : ℕ
 
         pub counting_within : at + 3 + n ≤ length batch
         counting_within = let whole = sound.whole in omega (arith, size_is, long)
-
-        pub counting_field : length batch < 18446744073709551616 → at + 3 + n < 18446744073709551616
-        counting_field short = omega (arith, counting_within)
-
-        pub counting_less : length batch - (at + 3 + n) < length batch - at
-        counting_less = omega (arith, counting_within)
 
         pub counting_more :
             {next : Counts} →

@@ -1,17 +1,17 @@
 -- The rows that a default adds, as they are written: a situation's own row, and the loop over the situations.
 use Prim.Native.Nat.{ℕ, zero, suc, ◌+◌, ◌-◌, ◌≤◌, ◌<◌}
-use mathlib.Core.Path.{◌≡◌, refl, ap₂, ◌∙◌}
+use mathlib.Core.Path.{◌≡◌, refl, ap₂}
 use mathlib.Core.Bool.{Bool, true, false, cond}
 use mathlib.Core.List.{List, [], ◌∷◌, ◌++◌, map}
 use lib.Dec.{eqb}
 use lib.ListN.{length, take, length-map}
-use borrow.Author.Tests.{eq-eqb, ne_eqb}
 use native.Mathlib.Numerals.{add-one}
 use native.Mathlib.Omega.{arith}
 use Rattle.lent.specs.Inside.{Wrote}
 use Rattle.lent.proofs.Laws.{wrote_none, wrote_then, within_first}
 use Rattle.answers.specs.Meaning.{number}
 use Rattle.answers.specs.declared.Answer.{Answer}
+use Rattle.answers.specs.declared.Answer.TheVariants.{Silent}
 use Rattle.answers.proofs.Claims.{number_small}
 use Rattle.answers.proofs.Every.{each}
 use Rattle.situations.specs.declared.Situation.{Situation}
@@ -22,11 +22,11 @@ use Rattle.base4.specs.Meaning.{situations_from, situations_of}
 use Rattle.base4.proofs.Shifts.{weight-columns}
 use Rattle.rows.specs.Meaning.{is, Row, cell_of}
 use Rattle.matching.specs.Meaning.{matched}
-use Rattle.formula.specs.Meaning.{followed, row_nodes, rows_left, is_silent, own_row, own_rows, added_rows}
-use Rattle.writing.specs.Inside.{limit, beyond, Certain, row_with, behind, lined, parts_rest, row_parts, rows_step, own_step}
+use Rattle.formula.specs.Meaning.{followed, row_nodes, rows_left, own_row, own_rows, added_rows}
+use Rattle.writing.specs.Inside.{limit, beyond, Loud, Certain, row_with, behind, lined, parts_rest, row_parts, rows_step, own_step}
 use Rattle.writing.specs.Inside.{WritingParts, WritingOwn}
 use Rattle.writing.proofs.Parts.{parts_start, parts_ended}
-use Rattle.writing.proofs.Rows.{row_fits, row_written}
+use Rattle.writing.proofs.Rows.{is_silent-loud, row_fits, row_written}
 
 -- the answers of a situation as cells
 cell_is : (a : Answer) → cell_of (number a) ≡ is a
@@ -87,23 +87,20 @@ module _ (n w : ℕ) (l : w < weight n) {q : Situation} (e : q ≡ by_value (sit
         own_all v u = rw own_is (wrote_then v u)
 
 -- a default of silent adds nothing
-module _ (d : Answer) (n : ℕ) (rows : List Row) {k : ℕ} (f : k ≡ number d) where
-  pub added_none : k ≡ 0 → (old : List ℕ) (at : ℕ) → Wrote old at (rows_step (eqb at 0) (added_rows d n rows)) old at
+module _ (d : Answer) (n : ℕ) (rows : List Row) where
+  pub added_none : d ≡ Silent → (old : List ℕ) (at : ℕ) → Wrote old at (rows_step (eqb at 0) (added_rows d n rows)) old at
   unfolding added_rows parts_rest lined rows_left followed
-  added_none h old at = rw (← f, eq-eqb k 0 h) (nothing (eqb at 0))
+  added_none h old at = rw h (nothing (eqb at 0))
     where
       nothing : (b : Bool) → Wrote old at (cond {A = List ℕ} b [] []) old at
       nothing true = wrote_none old at
       nothing false = wrote_none old at
 
   -- any other the situations' own rows
-  module _ (h : k ≡ 0 → ⊥) where
+  module _ (h : Loud d) where
     added_own : added_rows d n rows ≡ own_rows d rows (situations_of n)
     unfolding added_rows
-    added_own = rw (← f, ne_eqb k 0 h)
-
-    loud : is_silent d ≡ false
-    loud = rw (← f) (ne_eqb k 0 h)
+    added_own = rw (is_silent-loud d h)
 
     pub own_start : (old : List ℕ) (at : ℕ) → WritingOwn d rows n old at old at 0
     own_start old at =
@@ -145,7 +142,7 @@ module _ (d : Answer) (n : ℕ) (rows : List Row) {k : ℕ} (f : k ≡ number d)
                   Left new next (rows_left (cond b more (own_row d (situation_at n w) ∷ more))) →
                   Left new next (cond b (rows_left more) (own_row d (situation_at n w) ∷ rows_left more))
               go true u = u
-              go false u = rw loud at u
+              go false u = rw (is_silent-loud d h) at u
 
           pub own_room :
               at + length (rows_step (eqb at 0) (added_rows d n rows)) ≤ limit →
@@ -161,5 +158,5 @@ module _ (d : Answer) (n : ℕ) (rows : List Row) {k : ℕ} (f : k ≡ number d)
           own_more u =
               record {
                 inside = omega arith;
-                left = rw (add-one w) (row_written (matched rows s) (own_row d s) rest one_own (λ e z. h (f ∙ z)) u);
+                left = rw (add-one w) (row_written (matched rows s) (own_row d s) rest one_own (λ e. h) u);
               }

@@ -1,33 +1,17 @@
 -- Parts as they are written one behind another: the first one, then each further one followed by an operator; without any a constant.
-use Prim.Native.Nat.{ℕ, ◌+◌, ◌≤◌, ◌<◌}
+use Prim.Native.Nat.{ℕ, ◌+◌, ◌≤◌}
 use mathlib.Core.Path.{◌≡◌, refl, sym, ◌∙◌}
 use mathlib.Core.Bool.{Bool, true, false, cond}
 use mathlib.Core.List.{List, [], ◌∷◌, ◌++◌, append-nil, append_assoc}
 use lib.Dec.{eqb}
-use lib.ListN.{length, set, length-append}
+use lib.ListN.{length, length-append}
 use borrow.Author.Tests.{eq-eqb, ne_eqb}
 use native.Mathlib.Nat.{add-zero}
 use native.Mathlib.Omega.{arith}
 use Rattle.lent.specs.Inside.{Wrote}
-use Rattle.lent.proofs.Laws.{wrote_none, wrote_counted, wrote_one, writing_start, writing_more, writing_done, writing_within}
+use Rattle.lent.proofs.Laws.{writing_start, writing_more, writing_done, writing_within}
 use Rattle.formula.specs.Meaning.{followed, together}
 use Rattle.writing.specs.Inside.{behind, part_nodes, lined, parts_rest, WritingParts}
-
--- one node
-module _ (b : List ℕ) (at x : ℕ) where
-  pub one-counted : length b < at + 1 → Wrote b at (x ∷ []) b (at + 1)
-  one-counted l = wrote_counted b at (x ∷ []) refl l
-
-  pub one_written : Wrote b at (x ∷ []) (set b at x) (at + 1)
-  one_written = wrote_one b at x refl
-
--- the operator behind a part
-module _ (operator : ℕ) (first : Bool) where
-  pub operator_first : (b : List ℕ) (at : ℕ) → first ≡ true → Wrote b at (behind operator first) b at
-  operator_first b at e = rw e (wrote_none b at)
-
-  pub operator_later : {b c : List ℕ} {at m : ℕ} → first ≡ false → Wrote b at (operator ∷ []) c m → Wrote b at (behind operator first) c m
-  operator_later e w = rw e w
 
 parts_rest-cons :
     (operator : ℕ) (none : List ℕ) (first : Bool) (part : List ℕ) (parts : List (List ℕ)) →

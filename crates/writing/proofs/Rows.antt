@@ -1,12 +1,12 @@
 -- What a cell adds to a row and a row to a table, as it is written, and the loop over the cells of a row.
 use Prim.Native.Nat.{ℕ, suc, ◌+◌, ◌%◌, ◌≤◌, ◌<◌}
-use mathlib.Core.Path.{◌≡◌, refl, ◌∙◌}
+use mathlib.Core.Path.{◌≡◌, refl}
 use mathlib.Core.Bool.{Bool, true, false, cond}
 use mathlib.Core.List.{List, [], ◌∷◌, ◌++◌, map}
 use lib.Dec.{eqb}
 use lib.ListN.{length, drop, get_or, drop_of_length-le, length-append}
 use lib.Seq.{drop-cons}
-use borrow.Author.Tests.{lt-ltb, le-ltb, eq-eqb, ne_eqb}
+use borrow.Author.Tests.{lt-ltb, le-ltb, eq-eqb}
 use native.Mathlib.Numerals.{add-one}
 use native.Mathlib.Omega.{arith}
 use Rattle.lent.specs.Meaning.{WroteWhole}
@@ -16,11 +16,22 @@ use Rattle.answers.specs.Meaning.{number, from_number}
 use Rattle.answers.specs.declared.Answer.{Answer}
 use Rattle.answers.specs.declared.Answer.TheVariants.{Silent, Bury, Keep, Clash}
 use Rattle.rows.specs.Meaning.{Cell, is, any, Row, cell_of}
-use Rattle.formula.specs.Meaning.{selector, selectors, together, row_nodes, selector_size}
+use Rattle.answers.proofs.Claims.{number_from}
+use Rattle.formula.specs.Meaning.{selector, selectors, together, row_nodes, is_silent, selector_size}
 use Rattle.writing.specs.Inside.{limit, beyond, Loud, row_with, behind, part_nodes, cell_nodes, row_step, parts_rest, WritingParts, WritingCells}
 use Rattle.formula.proofs.Sizes.{selector-size}
 use Rattle.formula.proofs.Largest.{selector_size-most}
 use Rattle.writing.proofs.Parts.{lined-together, parts_start, part_within, part_written, none_within, none_written, instead_written, parts_done}
+
+-- an answer that is not silent
+pub is_silent-loud : (j : Answer) → Loud j → is_silent j ≡ false
+is_silent-loud Silent h = absurd (h refl)
+is_silent-loud Bury h = refl
+is_silent-loud Keep h = refl
+is_silent-loud Clash h = refl
+
+pub loud_not_silent : (j : Answer) → is_silent j ≡ false → Loud j
+loud_not_silent j e z = cc
 
 -- no selector is empty, and no row
 selector_size-some : (a j : Answer) → Loud j → 1 ≤ selector_size a j
@@ -93,26 +104,27 @@ module _ (first : Bool) (column cell : ℕ) (j : Answer) where
   cell_is h = rw (lt-ltb cell 4 h)
 
   pub cell_all :
-      {b c d : List ℕ} (at : ℕ) {m n : ℕ} →
-      WroteWhole b (at % 4294967296) (selector (column % 8) (from_number cell) j) c m →
+      {b c d : List ℕ} (at : ℕ) {m n x : ℕ} →
+      x ≡ number j →
+      WroteWhole b (at % 4294967296) (selector (column % 8) (from_number cell) (from_number x)) c m →
       Wrote c m (behind 6 first) d n →
       cell < 4 →
       column < 6 →
       at ≤ limit →
       Wrote b at (cell_nodes first column (cell_of cell) j) d n
-  cell_all at v w h l near =
+  cell_all at e v w h l near =
       let place : at % 4294967296 ≡ at = omega arith in
       let same : column % 8 ≡ column = omega arith in
-      rw (cell_is h) (wrote_then (placed_wrote (rw (place, same) at v)) w)
+      rw (cell_is h) (wrote_then (placed_wrote (rw (place, same, e, number_from) at v)) w)
 
 -- what a row adds
-module _ (first : Bool) (cells : List ℕ) (j : Answer) {k : ℕ} (f : k ≡ number j) where
-  pub row_silent : (b : List ℕ) (at : ℕ) → k ≡ 0 → Wrote b at (row_step first (row_with cells j)) b at
-  row_silent b at h = rw (← f, eq-eqb k 0 h) (wrote_none b at)
+module _ (first : Bool) (cells : List ℕ) (j : Answer) where
+  pub row_silent : (b : List ℕ) (at : ℕ) → j ≡ Silent → Wrote b at (row_step first (row_with cells j)) b at
+  row_silent b at h = rw h (wrote_none b at)
 
-  module _ (h : k ≡ 0 → ⊥) where
+  module _ (h : Loud j) where
     row_is : row_step first (row_with cells j) ≡ row_nodes (row_with cells j) ++ behind 7 first
-    row_is = rw (← f, ne_eqb k 0 h)
+    row_is = rw (is_silent-loud j h)
 
     module _ (at : ℕ) (room : at + length (row_step first (row_with cells j)) ≤ limit) where
       pub row_within : at + length (row_nodes (row_with cells j)) ≤ limit
@@ -151,14 +163,12 @@ module _ (j : Answer) (cells : List ℕ) {old new : List ℕ} {at next : ℕ} (i
     cell_near room = let ends = w.left.left.ends in omega arith
 
     pub cells-more :
-        {k : ℕ} →
-        k ≡ number j →
-        (k ≡ 0 → ⊥) →
+        Loud j →
         {c : List ℕ} {m : ℕ} →
         Wrote new next (cell_nodes (eqb next at) i (cell_of (get_or cells i 0)) j) c m →
         WritingCells j cells old at c m (i + 1)
     unfolding selectors
-    cells-more f h {c} {m} v =
+    cells-more h {c} {m} v =
         record { inside = omega arith; left = rw (add-one i) (go (cell_of (get_or cells i 0)) one_cell v) }
       where
         go :
@@ -169,7 +179,7 @@ module _ (j : Answer) (cells : List ℕ) {old new : List ℕ} {at next : ℕ} (i
             (selectors (suc i) j (map cell_of (drop (suc i) cells)))
         go (is a) u v =
             part_written (selector i a j) (selectors (suc i) j (map cell_of (drop (suc i) cells))) u
-            (selector-some i a j (λ z. h (f ∙ z)))
+            (selector-some i a j h)
             v
         go any u v = none_written (selectors (suc i) j (map cell_of (drop (suc i) cells))) u v
 

@@ -4,15 +4,13 @@ use mathlib.Core.Path.{◌≡◌, refl, ap, sym, ◌∙◌}
 use mathlib.Core.Bool.{Bool, true, false, cond}
 use mathlib.Core.List.{List, [], ◌∷◌, ◌++◌, map}
 use lib.Dec.{ltb, eqb}
-use lib.ListN.{length, take, length-map, length-append}
-use borrow.Author.Tests.{eqb-true, eqb-false, lt-ltb, le-ltb, ltb-false}
+use lib.ListN.{length, length-map, length-append}
+use borrow.Author.Tests.{eqb-true, eqb-false, ltb-false}
 use native.Mathlib.Nat.{zero-add, mul-le-mul_left}
 use native.Mathlib.Omega.{arith}
 use Rattle.lent.specs.Meaning.{WroteWhole}
 use Rattle.lent.specs.Inside.{Wrote}
 use Rattle.lent.proofs.Laws.{wrote_then, placed-counted, placed-written}
-use Rattle.answers.specs.Meaning.{number, from_number}
-use Rattle.answers.proofs.Claims.{number_from}
 use Rattle.answers.specs.declared.Answer.{Answer}
 use Rattle.base4.proofs.Shifts.{weight-small, weight-columns}
 use Rattle.rows.specs.Meaning.{Row, row, row_width, cell_bytes, row_count, row_bytes, rows_in}
@@ -20,12 +18,12 @@ use Rattle.rows.proofs.RowBytes.{row_bytes-few, cell_bytes-few, row_count-end}
 use Rattle.rows.proofs.RowLists.{rows_of-length, rows_of-row}
 use Rattle.formula.specs.Meaning.{row_nodes, rows_left, is_silent, together, rows_nodes, added_rows, all_rows}
 use Rattle.writing.specs.Meaning.{few_rows}
-use Rattle.writing.specs.Inside.{limit, beyond, parts_rest, row_parts, rows_step}
+use Rattle.writing.specs.Inside.{limit, parts_rest, row_parts, rows_step}
 use Rattle.formula.proofs.Sizes.{rows-size}
 use Rattle.formula.proofs.Largest.{rows-most}
 use Rattle.formula.proofs.Added.{each_row, added_rows-few, added_rows-wide}
 use Rattle.writing.proofs.Parts.{Some, lined-none, lined-some, lined-append}
-use Rattle.writing.proofs.Rows.{row-some}
+use Rattle.writing.proofs.Rows.{loud_not_silent, row-some}
 
 -- a row has at most six cells
 pub cells_six : (n : ℕ) (rows : List ℕ) (i : ℕ) → length (cell_bytes (row_bytes n rows i)) ≤ 6
@@ -39,7 +37,7 @@ rows-some (r ∷ rows) = go (is_silent r.outcome) refl (rows-some rows)
   where
     go : (b : Bool) → is_silent r.outcome ≡ b → Some (row_parts rows) → Some (map row_nodes (cond b (rows_left rows) (r ∷ rows_left rows)))
     go true e rest = rest
-    go false e rest = (row-some r (eqb-false (number r.outcome) 0 e), rest)
+    go false e rest = (row-some r (loud_not_silent r.outcome e), rest)
 
 row_parts-append : (rows more : List Row) → row_parts (rows ++ more) ≡ row_parts rows ++ row_parts more
 unfolding rows_left
@@ -128,9 +126,13 @@ module _ (d : Answer) (n : ℕ) (rows : List ℕ) (short : length rows ≤ 640) 
 
 -- the written rows, then the added ones
 module _
-    (d : Answer) (n : ℕ) (rows : List ℕ) (short : length rows ≤ 640) {old mid : List ℕ} {m : ℕ}
-    (v : Wrote old 0 (rows_step (eqb 0 0) (rows_in n rows)) mid m)
+    (d : Answer) (n : ℕ) (rows : List ℕ) (short : length rows ≤ 640) {old mid : List ℕ} {at m : ℕ}
+    (zero : at ≡ 0)
+    (from : Wrote old at (rows_step (eqb at 0) (rows_in n rows)) mid m)
   where
+    v : Wrote old 0 (rows_step (eqb 0 0) (rows_in n rows)) mid m
+    v = rw zero at from
+
     abbrev added : List Row
     added = added_rows d n (rows_in n rows)
 
@@ -151,34 +153,25 @@ module _
       count : r ≡ length (rows_step true (all_rows d n (rows_in n rows)))
       count = both.ends ∙ zero-add (length (rows_step true (all_rows d n (rows_in n rows))))
 
-      pub end-within : r ≤ beyond
-      end-within = let all = table_within d n rows short in omega (arith, count)
-
       pub zero-written :
           r ≡ 0 →
           {c : List ℕ} {q : ℕ} →
           Wrote new r (0 ∷ []) c q →
-          Wrote old 0 (rows_nodes (all_rows d n (rows_in n rows))) c q
+          Wrote old at (rows_nodes (all_rows d n (rows_in n rows))) c q
       zero-written z x =
           let none = sym count ∙ z in
           let nothing = empty (rows_step true (all_rows d n (rows_in n rows))) none in
-          rw (no_rows (all_rows d n (rows_in n rows)) none) (rw nothing at (wrote_then both x))
+          rw (zero, no_rows (all_rows d n (rows_in n rows)) none) (rw nothing at (wrote_then both x))
         where
           empty : (l : List ℕ) → length l ≡ 0 → l ≡ []
           empty [] e = refl
           empty (y ∷ l) e = absurd (omega arith)
 
-      pub all-written : (r ≡ 0 → ⊥) → Wrote old 0 (rows_nodes (all_rows d n (rows_in n rows))) new r
-      all-written z = rw (some-rows (all_rows d n (rows_in n rows)) (λ e. z (count ∙ e))) at both
+      pub all-written : (r ≡ 0 → ⊥) → Wrote old at (rows_nodes (all_rows d n (rows_in n rows))) new r
+      all-written z = rw zero (rw (some-rows (all_rows d n (rows_in n rows)) (λ e. z (count ∙ e))) at both)
 
 -- a part no longer than a table's
 module _ (rows : List ℕ) where
-  pub few-none : 640 < length rows → take 0 rows ≡ few_rows rows
-  few-none l = rw (lt-ltb 640 (length rows) l)
-
-  pub few-all : length rows ≤ 640 → rows ≡ few_rows rows
-  few-all l = rw (le-ltb 640 (length rows) l)
-
   pub few-short : {part : List ℕ} → part ≡ few_rows rows → length part ≤ 640
   few-short e = rw e (go (ltb 640 (length rows)) refl)
     where
@@ -190,19 +183,16 @@ module _ (rows : List ℕ) where
 pub rows-counted : (nodes : List ℕ) {old new : List ℕ} {r : ℕ} → Wrote old 0 nodes new r → r ≡ length nodes
 rows-counted nodes w = w.ends ∙ zero-add (length nodes)
 
-module _ (d : Answer) (n : ℕ) (rows : List ℕ) {k : ℕ} (e : k ≡ number d) {part : List ℕ} (f : part ≡ few_rows rows) where
+module _ (d : Answer) (n : ℕ) (rows : List ℕ) {part : List ℕ} (f : part ≡ few_rows rows) where
   abbrev counted : List ℕ
-  counted = rows_nodes (all_rows (from_number k) n (rows_in n part))
+  counted = rows_nodes (all_rows d n (rows_in n part))
 
   abbrev whole : List ℕ
   whole = rows_nodes (all_rows d n (rows_in n (few_rows rows)))
 
-  nodes_are : counted ≡ whole
-  nodes_are = rw (e, number_from d, f)
-
   module _ {needed : ℕ} (g : needed ≡ length counted) where
     pub table_counted : (b : List ℕ) → length b < needed → WroteWhole b 0 whole b needed
-    table_counted b l = rw nodes_are at (placed-counted b 0 counted (omega arith) l)
+    table_counted b l = rw f at (placed-counted b 0 counted (omega arith) l)
 
     pub table_written : {b c : List ℕ} {r : ℕ} → needed ≤ length b → Wrote b 0 counted c r → WroteWhole b 0 whole c r
-    table_written l w = rw nodes_are at (let ends = w.ends in placed-written w (omega arith))
+    table_written l w = rw f at (let ends = w.ends in placed-written w (omega arith))

@@ -1,35 +1,24 @@
 -- The rows of a part as they are written, one behind another.
 use Prim.Native.Nat.{ℕ, suc, ◌+◌, ◌-◌, ◌≤◌, ◌<◌}
-use mathlib.Core.Path.{◌≡◌, ap, ◌∙◌}
+use mathlib.Core.Path.{◌≡◌}
 use mathlib.Core.Bool.{cond}
 use mathlib.Core.List.{List, [], ◌∷◌, map}
 use lib.Dec.{eqb}
 use lib.ListN.{length}
-use borrow.Author.Tests.{eqb-false}
 use native.Mathlib.Numerals.{add-one}
 use native.Mathlib.Omega.{arith}
 use Rattle.lent.specs.Inside.{Wrote}
-use Rattle.answers.specs.Meaning.{number, from_number}
-use Rattle.answers.proofs.Claims.{number_from}
 use Rattle.answers.specs.declared.Answer.{Answer}
 use Rattle.rows.specs.Meaning.{Row, cell_bytes, outcome_of, row_count, row_bytes, rows_of, rows_in}
 use Rattle.formula.specs.Meaning.{row_nodes, rows_left, is_silent}
-use Rattle.writing.specs.Inside.{limit, Told, row_with, row_step, row_parts, rows_step, WritingParts, WritingRows}
+use Rattle.writing.specs.Inside.{limit, row_with, row_step, row_parts, rows_step, WritingParts, WritingRows}
 use Rattle.writing.proofs.Parts.{parts_start, parts_ended}
-use Rattle.writing.proofs.Rows.{row_fits, row_written}
+use Rattle.writing.proofs.Rows.{loud_not_silent, row_fits, row_written}
 use Rattle.writing.proofs.Tables.{cells_six}
 
 -- a row has at most six cells
 pub cells-few : (n : ℕ) (rows : List ℕ) (i : ℕ) {r cells : List ℕ} → r ≡ row_bytes n rows i → cells ≡ cell_bytes r → length cells ≤ 6
 cells-few n rows i e f = rw (f, e) (cells_six n rows i)
-
--- its outcome is handed on as a number
-module _ {x : ℕ} (a : Answer) (e : x ≡ number a) where
-  pub outcome-told : Told x
-  outcome-told = rw (e, number_from a)
-
-  pub outcome-is : {b r : List ℕ} → b ≡ r → a ≡ outcome_of b → from_number x ≡ outcome_of b
-  outcome-is f g = ap from_number e ∙ number_from a ∙ g
 
 -- the loop over the rows of a part
 pub rows_start : (n : ℕ) (rows b : List ℕ) (at : ℕ) → WritingRows rows n b at b at 0
@@ -67,7 +56,7 @@ module _ (n : ℕ) (rows : List ℕ) {old new : List ℕ} {at next : ℕ} (i : �
       rows_more v =
           record {
             inside = omega arith;
-            left = rw (add-one i) (row_written (is_silent j) (row_with cells j) rest one-row (eqb-false (number j) 0) v);
+            left = rw (add-one i) (row_written (is_silent j) (row_with cells j) rest one-row (loud_not_silent j) v);
           }
 
   pub rows-done : {k : ℕ} → k ≡ row_count n rows → k ≤ i → Wrote old at (rows_step (eqb at 0) (rows_in n rows)) new next

@@ -1,13 +1,20 @@
 -- What the private functions and their loops say among themselves. Nothing here has to be believed: the laws tie it to the formula.
 use Rattle.std.specs.Prelude.{ℕ, ◌-◌, ◌≤◌, ◌<◌, ◌≡◌, Bool, cond, List, [], ◌∷◌, ◌++◌, map, eqb, length, drop, get_or}
-use Rattle.lent.specs.Inside.{Writing}
-use Rattle.answers.specs.Meaning.{number, from_number}
+use Rattle.lent.specs.Inside.{Wrote, Writing}
+use Rattle.answers.specs.Meaning.{number}
 use Rattle.answers.specs.declared.Answer.{Answer}
+use Rattle.answers.specs.declared.Answer.TheVariants.{Silent}
 use Rattle.situations.specs.Meaning.{weight}
 use Rattle.base4.specs.Meaning.{situations_from, situations_of}
 use Rattle.rows.specs.Meaning.{Cell, is, any, Row, cell_of, row_count, rows_of, rows_in}
 use Rattle.matching.specs.Meaning.{matched}
+use Rattle.writing.specs.declared.Nodes.{Nodes}
 use Rattle.formula.specs.Meaning.{selector, selectors, followed, row_nodes, rows_left, is_silent, own_row, own_rows}
+
+-- nodes are put behind those that stand in the buffer, which stays the one that was lent
+pub record Put (old : Nodes) (xs : List ℕ) (new : Nodes) : Type 0 where
+  pub put : Wrote old.buffer.now old.next xs new.buffer.now new.next
+  pub same : new.buffer.ghost_name ≡ old.buffer.ghost_name
 
 -- no place where a selector starts passes it, and up to it places are told apart
 abbrev pub limit : ℕ
@@ -19,11 +26,7 @@ beyond = 4294967305
 
 -- an outcome that is not silent
 abbrev pub Loud : Answer → Type 0
-Loud j = number j ≡ 0 → ⊥
-
--- a number that is an answer's
-abbrev pub Told : ℕ → Type 0
-Told outcome = outcome ≡ number (from_number outcome)
+Loud j = j ≡ Silent → ⊥
 
 -- a row of cells with an outcome
 abbrev pub row_with : List ℕ → Answer → Row

@@ -1,12 +1,9 @@
 use Rattle.std.proofs.Common.{rules}
-use Rattle.base4.proofs.Indexes.{indexing_none, indexing_times, indexing_sum, indexing_more, indexing_six, indexing_all}
+use Rattle.base4.proofs.Indexes.{indexing_none, indexing_times, indexing_sum, indexing_more, indexing_all}
 use Rattle.base4.proofs.index.Goals as goal
 
 pub loop-i-init : goal.loop-i-init
 loop-i-init c = indexing_none _
-
-pub returns-then-i-eq6 : goal.returns-then-i-eq6
-returns-then-i-eq6 c = search (rules, indexing_six)
 
 pub overflow_mul-w : goal.overflow_mul-w
 overflow_mul-w c = search (rules, indexing_times)

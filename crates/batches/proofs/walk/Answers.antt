@@ -1,30 +1,19 @@
-use Rattle.std.proofs.Common.{rules}
-use Rattle.batches.proofs.Walks.{walk_starts, walk_ends, walk_stops, walk-room, walk_header, walk_field, walk_less, walk_more}
+use Rattle.std.proofs.Common.{refl}
+use Rattle.refusals.proofs.Checks.{refusal_counts}
+use Rattle.batches.proofs.Walks.{walk_ends, walk_stops, walk-room, walk_more}
 use Rattle.batches.proofs.walk.Goals as goal
 
-pub loop-rest-init : goal.loop-rest-init
-loop-rest-init c = walk_starts _ _ _
-
-pub returns-then-refusal-ne0 : goal.returns-then-refusal-ne0
-returns-then-refusal-ne0 c =
+pub returns-in-Err : goal.returns-in-Err
+returns-in-Err c =
     walk_stops _ _ _
     c.loop-rest.invariant
     c.due.ensures
     c.loop-rest-test.true
-    c.fault-refusal.ensures
-    c.if-refusal-ne0.true
-
-pub overflow_add-length : goal.overflow_add-length
-overflow_add-length c = search (rules, walk_header)
-
-pub overflow_add-length-in-loop-rest : goal.overflow_add-length-in-loop-rest
-overflow_add-length-in-loop-rest c = search (rules, walk_field)
+    c.in-Err.ensures
+    (refusal_counts c.in-Err.refusal)
 
 pub overflow_sub-left : goal.overflow_sub-left
-overflow_sub-left c = walk-room _ _ _ c.fault-refusal.ensures c.if-refusal-ne0.false
-
-pub loop-rest-smaller : goal.loop-rest-smaller
-loop-rest-smaller c = search (rules, walk_less)
+overflow_sub-left c = walk-room _ _ _ c.in_default.ensures refl
 
 pub loop-rest-preserved : goal.loop-rest-preserved
 loop-rest-preserved c =
@@ -32,14 +21,9 @@ loop-rest-preserved c =
     c.loop-rest.invariant
     c.due.ensures
     c.loop-rest-test.true
-    c.fault-refusal.ensures
-    c.if-refusal-ne0.false
+    c.in_default.ensures
+    refl
     c.size.ensures
 
 pub returns : goal.returns
-returns c =
-    walk_ends _ _ _
-    c.loop-rest.invariant
-    c.due.ensures
-    c.loop-rest-test.false
-    c.none.ensures
+returns c = walk_ends _ _ _ c.loop-rest.invariant c.due.ensures c.loop-rest-test.false refl

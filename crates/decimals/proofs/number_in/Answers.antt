@@ -1,24 +1,15 @@
-use Rattle.std.proofs.Common.{rules}
-use Rattle.decimals.proofs.Reading.{read_nothing, read_start, read_below, read_above, read_large, read_more, read_end}
+use Rattle.std.proofs.Common.{◌∙◌}
+use Rattle.decimals.proofs.Parsed.{plus_none, no_plus, no_text-none, text_same, parsed}
 use Rattle.decimals.proofs.number_in.Goals as goal
 
-pub returns-then-bytes-eq0 : goal.returns-then-bytes-eq0
-returns-then-bytes-eq0 c = search (rules, read_nothing)
+pub returns-then-starts_with : goal.returns-then-starts_with
+returns-then-starts_with c = plus_none _ c.starts_with.ensures.value c.if-starts_with.true
 
-pub loop-i-init : goal.loop-i-init
-loop-i-init c = search (rules, read_start)
-
-pub returns-then-byte-lt-ZERO : goal.returns-then-byte-lt-ZERO
-returns-then-byte-lt-ZERO c = search (rules, read_below)
-
-pub returns-then-byte-gt-NINE : goal.returns-then-byte-gt-NINE
-returns-then-byte-gt-NINE c = search (rules, read_above)
-
-pub returns-then-digit-number : goal.returns-then-digit-number
-returns-then-digit-number c = search (rules, read_large)
-
-pub loop-i-preserved : goal.loop-i-preserved
-loop-i-preserved c = search (rules, read_more)
+pub returns-in_err-ok : goal.returns-in_err-ok
+returns-in_err-ok c =
+    c.from_residual.ensures ∙ no_text-none _ _ _ c.from_utf8.ensures.cases c.ok.ensures.value c.in_err-ok.was
 
 pub returns : goal.returns
-returns c = search (rules, read_end)
+returns c =
+    let same = text_same _ _ _ _ c.from_utf8.ensures.cases c.ok.ensures.value c.in_ok-ok.was in
+    c.ok-2.ensures.value ∙ parsed _ _ (rw same at c.parse.ensures.value.0) (no_plus c.args.bytes.now c.starts_with.ensures.value c.if-starts_with.false)

@@ -1,18 +1,9 @@
-use Rattle.lanes.proofs.Placing.{no_places, no_second, written_none, meet-more, meet_all}
+use lib.Bits.{bit_and}
 use Rattle.std.proofs.Common.{rules}
+use Rattle.answers.specs.Meaning.{meet}
+use Rattle.lanes.proofs.Operators.{meet-pair}
+use Rattle.lanes.proofs.Placing.{two_placed}
 use Rattle.lanes.proofs.meet.Goals as goal
 
-pub returns-then-places-lt2 : goal.returns-then-places-lt2
-returns-then-places-lt2 c = search (rules, no_places)
-
-pub returns-then-places-height : goal.returns-then-places-height
-returns-then-places-height c = search (rules, no_second)
-
-pub loop-w-init : goal.loop-w-init
-loop-w-init c = (search rules, search rules, written_none _ _ _)
-
-pub loop-w-preserved : goal.loop-w-preserved
-loop-w-preserved c = (search rules, search rules, search (rules, meet-more))
-
 pub returns : goal.returns
-returns c = search (rules, meet_all)
+returns c = two_placed _ meet bit_and _ meet-pair (λ p q r f g h. search rules) c.two.ensures

@@ -1,18 +1,10 @@
-use Rattle.lanes.proofs.Placing.{no_place, laid_none, laid-all, keep_inside, turn_more}
+use lib.Bits.{bit_xor}
+use Rattle.words.specs.Meaning.{ones}
 use Rattle.std.proofs.Common.{rules}
+use Rattle.answers.specs.Meaning.{turn}
+use Rattle.lanes.proofs.Operators.{turn-pair}
+use Rattle.lanes.proofs.Placing.{one_placed}
 use Rattle.lanes.proofs.turn.Goals as goal
 
-pub returns-then-stack-height : goal.returns-then-stack-height
-returns-then-stack-height c = search (rules, no_place)
-
-pub loop-w-init : goal.loop-w-init
-loop-w-init c = (search rules, search rules, laid_none _ _ _)
-
-pub bounds-stack-above-in-loop-w : goal.bounds-stack-above-in-loop-w
-bounds-stack-above-in-loop-w c = search (rules, keep_inside)
-
-pub loop-w-preserved : goal.loop-w-preserved
-loop-w-preserved c = (search rules, search rules, search (rules, turn_more))
-
 pub returns : goal.returns
-returns c = search (rules, laid-all)
+returns c = one_placed _ turn (λ p q. bit_xor p ones) (λ p q. bit_xor q p) _ turn-pair (λ p q r f g h. (search rules, search rules)) c.one.ensures

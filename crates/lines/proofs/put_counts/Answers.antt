@@ -1,9 +1,8 @@
-use Rattle.lines.proofs.Printing.{counts_printed}
+use Rattle.std.proofs.Common.{rules}
+use Rattle.text.proofs.Printing.{wrote_then}
+use Rattle.lines.specs.Meaning.{count_lines}
 use Rattle.lines.proofs.put_counts.Goals as goal
 
 pub returns : goal.returns
-returns c =
-    counts_printed _
-    c.put_line-rows.ensures
-    c.put_line-nodes.ensures
-    c.put_line.ensures
+unfolding count_lines
+returns c = search (rules, wrote_then)

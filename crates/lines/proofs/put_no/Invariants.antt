@@ -1,10 +1,7 @@
-use Prim.Native.Nat.{◌-◌}
-use lib.ListN.{length}
-use Rattle.lines.specs.Inside.{Telling}
+use Rattle.std.proofs.Common.{◌++◌, take}
+use Rattle.text.specs.Meaning.{Wrote}
+use Rattle.lines.specs.Meaning.{growth_no, answers_text}
 use Rattle.lines.proofs.put_no.Given as goal
 
-abbrev pub invariant-loop-i : goal.invariant-loop-i
-invariant-loop-i l = Telling l.answers l.initial.text l.initial.next l.text l.next l.i
-
-abbrev pub decreases-loop-i : goal.decreases-loop-i
-decreases-loop-i l = length l.answers - l.i
+abbrev pub invariant-loop-answer : goal.invariant-loop-answer
+invariant-loop-answer l = Wrote l.fn.page (growth_no ++ answers_text (take l.answer-index l.answers)) l.page

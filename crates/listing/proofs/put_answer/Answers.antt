@@ -1,13 +1,13 @@
 use Rattle.std.proofs.Common.{rules}
 use Rattle.situations.proofs.Bytewise.{prefix_inside, prefix_long}
-use Rattle.listing.proofs.Walk.{answer_silent, answer-counted, answer-written}
+use Rattle.listing.proofs.Walk.{told_silent, told-counted, told-written}
 use Rattle.listing.proofs.put_answer.Goals as goal
 
-pub returns-then-answer-eq-SILENT : goal.returns-then-answer-eq-SILENT
-returns-then-answer-eq-SILENT c = search (rules, answer_silent)
+pub returns-then-eq : goal.returns-then-eq
+returns-then-eq c = search (rules, told_silent)
 
 pub returns-then-table-end : goal.returns-then-table-end
-returns-then-table-end c = search (rules, answer-counted)
+returns-then-table-end c = search (rules, told-counted)
 
 pub slice_bounds-cells-end : goal.slice_bounds-cells-end
 slice_bounds-cells-end c = search (rules, prefix_inside)
@@ -19,7 +19,7 @@ pub returns : goal.returns
 returns c =
     search (
       rules,
-      answer-written,
+      told-written,
       c.put_bytes.ensures,
       c.put_bytes-last.ensures,
       c.put_bytes-first.ensures,

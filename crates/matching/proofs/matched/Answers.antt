@@ -1,7 +1,6 @@
 use Rattle.std.proofs.Common.{rules}
 use native.Mathlib.Omega.{arith}
-use Rattle.rows.proofs.RowBytes.{row-columns}
-use Rattle.matching.proofs.Matches.{cells-start, cells-end, part_wide, part_is}
+use Rattle.matching.proofs.Matches.{cells-few, cells-start, cells-end, part_wide, part_is}
 use Rattle.matching.proofs.Matches.{rows_none, rows-found, rows_more, rows_all, rows_short}
 use Rattle.matching.proofs.matched.Goals as goal
 
@@ -12,16 +11,16 @@ pub loop-i-init : goal.loop-i-init
 loop-i-init c = rows_none _ _ _
 
 pub overflow_add-start : goal.overflow_add-start
-overflow_add-start c = omega (arith, row-columns _ _ _ _ c.row_count-count.ensures c.loop-i-test.true)
+overflow_add-start c = omega (arith, cells-few _ _ _ _ c.count-i-end.ensures c.loop-i-test.true)
 
 pub overflow_mul-start : goal.overflow_mul-start
-overflow_mul-start c = omega (arith, cells-start _ _ _ _ c.row_count-count.ensures c.loop-i-test.true)
+overflow_mul-start c = omega (arith, cells-start _ _ _ _ c.count-i-end.ensures c.loop-i-test.true)
 
 pub overflow_add-start-in-loop-i : goal.overflow_add-start-in-loop-i
-overflow_add-start-in-loop-i c = omega (arith, cells-start _ _ _ _ c.row_count-count.ensures c.loop-i-test.true)
+overflow_add-start-in-loop-i c = omega (arith, cells-start _ _ _ _ c.count-i-end.ensures c.loop-i-test.true)
 
 pub overflow_add-end : goal.overflow_add-end
-overflow_add-end c = omega (arith, cells-end _ _ _ _ c.row_count-count.ensures c.loop-i-test.true)
+overflow_add-end c = omega (arith, cells-end _ _ _ _ c.count-i-end.ensures c.loop-i-test.true)
 
 pub slice_bounds-cells_match-end : goal.slice_bounds-cells_match-end
 slice_bounds-cells_match-end c = search (rules, cells-end)

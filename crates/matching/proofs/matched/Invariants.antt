@@ -1,10 +1,6 @@
-use Prim.Native.Nat.{◌-◌}
 use Rattle.situations.specs.Meaning.{answers_of}
 use Rattle.matching.specs.Inside.{MatchingRows}
 use Rattle.matching.proofs.matched.Given as goal
 
 abbrev pub invariant-loop-i : goal.invariant-loop-i
-invariant-loop-i l = MatchingRows l.columns l.rows (answers_of l.situation) l.i
-
-abbrev pub decreases-loop-i : goal.decreases-loop-i
-decreases-loop-i l = l.count - l.i
+invariant-loop-i l = MatchingRows l.columns l.bytes (answers_of l.situation) l.i

@@ -1,11 +1,12 @@
-use Rattle.operands.proofs.Replies.{fault_unrelated, fault_relates}
+use Rattle.std.proofs.Common.{rules}
+use Rattle.operands.proofs.Replies.{reply_laws}
 use Rattle.operands.specs.Meaning.{contained_of}
 use Rattle.operands.proofs.contained.Goals as goal
 
-pub returns-then-refusal-ne0 : goal.returns-then-refusal-ne0
+pub returns-in_err-check : goal.returns-in_err-check
 unfolding contained_of
-returns-then-refusal-ne0 c = fault_unrelated _ c.operand_fault-refusal.ensures _ c.if-refusal-ne0.true
+returns-in_err-check c = search (rules, reply_laws)
 
 pub returns : goal.returns
 unfolding contained_of
-returns c = fault_relates _ c.operand_fault-refusal.ensures c.if-refusal-ne0.false (rw (c.contained.ensures, c.from_number-2.ensures, c.from_number.ensures))
+returns c = search (rules, reply_laws)

@@ -1,11 +1,12 @@
-use Rattle.operands.proofs.Replies.{fault_refuses, fault-answers}
+use Rattle.std.proofs.Common.{rules}
+use Rattle.operands.proofs.Replies.{reply_laws}
 use Rattle.operands.specs.Meaning.{two_of}
 use Rattle.operands.proofs.two.Goals as goal
 
-pub returns-then-refusal-ne0 : goal.returns-then-refusal-ne0
+pub returns-in_err-check_two : goal.returns-in_err-check_two
 unfolding two_of
-returns-then-refusal-ne0 c = fault_refuses _ c.two_fault-refusal.ensures _ c.if-refusal-ne0.true
+returns-in_err-check_two c = search (rules, reply_laws)
 
 pub returns : goal.returns
 unfolding two_of
-returns c = fault-answers _ c.two_fault-refusal.ensures c.if-refusal-ne0.false (rw (c.apply_two.ensures, c.from_number-2.ensures, c.from_number.ensures))
+returns c = search (rules, reply_laws)

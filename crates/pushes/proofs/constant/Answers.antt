@@ -1,11 +1,10 @@
-use Rattle.lanes.proofs.Placing.{no_place}
-use Rattle.pushes.proofs.Laying.{constant-laid}
+use mathlib.Core.Path.{◌≡◌}
 use Rattle.std.proofs.Common.{rules}
-use Rattle.std.proofs.Common.{rules}
+use Rattle.pushes.proofs.Laying.{laid_placed, constant_is}
 use Rattle.pushes.proofs.constant.Goals as goal
 
-pub returns-then-stack-height : goal.returns-then-stack-height
-returns-then-stack-height c = search (rules, no_place)
-
 pub returns : goal.returns
-returns c = search (rules, constant-laid)
+returns c =
+    laid_placed _ _ _
+    (λ k x r l m h. let e : r ≡ c.digit-alike.result = search rules in rw e (constant_is c.args.a k x m (search rules)))
+    c.lay.ensures

@@ -1,8 +1,7 @@
-use Rattle.reports.proofs.Printing.{batch_printed}
+use Rattle.text.proofs.Printing.{wrote_then}
+use Rattle.reports.specs.Meaning.{batch_line}
 use Rattle.reports.proofs.put_batch.Goals as goal
 
 pub returns : goal.returns
-returns c =
-    batch_printed _
-    c.put_bytes-start.ensures
-    c.put_refusal.ensures
+unfolding batch_line
+returns c = wrote_then c.bytes.ensures c.refusal.ensures

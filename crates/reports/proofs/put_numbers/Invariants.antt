@@ -1,10 +1,7 @@
-use Prim.Native.Nat.{◌-◌}
-use lib.ListN.{length}
-use Rattle.reports.specs.Inside.{Listing}
+use Rattle.std.proofs.Common.{take}
+use Rattle.text.specs.Meaning.{Wrote}
+use Rattle.reports.specs.Meaning.{number_lines}
 use Rattle.reports.proofs.put_numbers.Given as goal
 
-abbrev pub invariant-loop-i : goal.invariant-loop-i
-invariant-loop-i l = Listing l.numbers l.initial.text l.initial.next l.text l.next l.i
-
-abbrev pub decreases-loop-i : goal.decreases-loop-i
-decreases-loop-i l = length l.numbers - l.i
+abbrev pub invariant-loop-number : goal.invariant-loop-number
+invariant-loop-number l = Wrote l.fn.page (number_lines 0 (take l.number l.numbers)) l.page

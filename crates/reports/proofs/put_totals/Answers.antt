@@ -1,11 +1,8 @@
-use Rattle.reports.proofs.Printing.{totals_printed}
+use Rattle.std.proofs.Common.{rules}
+use Rattle.text.proofs.Printing.{wrote_then}
+use Rattle.reports.specs.Meaning.{total_lines}
 use Rattle.reports.proofs.put_totals.Goals as goal
 
 pub returns : goal.returns
-returns c =
-    totals_printed _
-    c.put_line-bury.ensures
-    c.put_line-keep.ensures
-    c.put_line-clash.ensures
-    c.put_line-refused.ensures
-    c.put_line.ensures
+unfolding total_lines
+returns c = search (rules, wrote_then)

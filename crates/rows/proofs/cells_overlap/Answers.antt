@@ -1,18 +1,14 @@
-use Rattle.std.proofs.Common.{rules}
-use Rattle.rows.proofs.Comparison.{comparing_none, comparing_short, comparing_apart, comparing_more, comparing_all}
+use Rattle.std.proofs.Common.{rules, ◌∙◌}
+use borrow.Author.Tests.{tests}
+use Rattle.std.proofs.lemmas.Iterator.{YieldsList-from_slice, YieldsList-from_zip}
+use Rattle.std.proofs.lemmas.Iterator.Search.{all_from_yields_List}
+use Rattle.rows.specs.Meaning.{cell_of, cells_share}
+use Rattle.rows.proofs.Comparison.{list_all-overlap}
 use Rattle.rows.proofs.cells_overlap.Goals as goal
 
-pub loop-i-init : goal.loop-i-init
-loop-i-init c = comparing_none _ _
-
-pub returns-then-q-i : goal.returns-then-q-i
-returns-then-q-i c = search (rules, comparing_short)
-
-pub returns-then-not-cells_share : goal.returns-then-not-cells_share
-returns-then-not-cells_share c = search (rules, comparing_apart)
-
-pub loop-i-preserved : goal.loop-i-preserved
-loop-i-preserved c = search (rules, comparing_more)
-
 pub returns : goal.returns
-returns c = search (rules, comparing_all)
+returns c =
+    all_from_yields_List (λ x. cells_share (cell_of x.0) (cell_of x.1)) c.all.new.self _ _ c.all.ensures.ran
+    (YieldsList-from_zip (YieldsList-from_slice c.args.p.now (cc)) (YieldsList-from_slice c.args.q.now (cc)))
+    (λ x b q k. search (rules, tests))
+    ∙ list_all-overlap _ _

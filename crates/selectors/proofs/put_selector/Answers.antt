@@ -1,18 +1,16 @@
 use Rattle.std.proofs.Common.{rules}
-use Rattle.selectors.proofs.Whole.{end_fits, silent_written, whole-within, selector-counted, selector-written}
+use Rattle.selectors.proofs.Silence.{silent_here, not_silent}
+use Rattle.selectors.proofs.Whole.{silent_written, whole-within, selector-counted, selector-written}
 use Rattle.selectors.proofs.put_selector.Goals as goal
 
-pub returns-then-outcome-eq-SILENT : goal.returns-then-outcome-eq-SILENT
-returns-then-outcome-eq-SILENT c = search (rules, silent_written)
-
-pub overflow_add-end : goal.overflow_add-end
-overflow_add-end c = search (rules, end_fits)
+pub returns-then-eq : goal.returns-then-eq
+returns-then-eq c = search (rules, silent_written, silent_here)
 
 pub returns-then-nodes-end : goal.returns-then-nodes-end
-returns-then-nodes-end c = search (rules, selector-counted)
+returns-then-nodes-end c = search (rules, selector-counted, not_silent)
 
 pub put_whole-requires : goal.put_whole-requires
-put_whole-requires c = search (rules, whole-within)
+put_whole-requires c = search (rules, whole-within, not_silent)
 
 pub returns : goal.returns
-returns c = search (rules, selector-written)
+returns c = search (rules, selector-written, not_silent)

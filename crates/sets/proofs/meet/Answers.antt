@@ -1,7 +1,10 @@
-use Rattle.sets.proofs.Spread.{meet_spread}
+use mathlib.Core.Path.{◌∙◌}
+use Rattle.std.proofs.Common.{rules}
+use Rattle.answers.specs.declared.Answer.TheVariants.{Clash}
+use Rattle.answers.specs.Meaning.{meet}
+use Rattle.sets.specs.Meaning.{answers_in}
+use Rattle.sets.proofs.Meets.{fold-meet}
 use Rattle.sets.proofs.meet.Goals as goal
 
 pub returns : goal.returns
-returns c =
-    meet_spread _ c.meet_with-clash.ensures c.meet_with-keep.ensures
-    c.meet_with-bury.ensures c.meet_with.ensures
+returns c = c.fold.ensures meet (λ a b r p. search rules) ∙ fold-meet Clash (answers_in c.args.set)

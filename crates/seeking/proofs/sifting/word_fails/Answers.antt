@@ -1,15 +1,13 @@
-use Rattle.std.proofs.Common.{rules}
-use Rattle.seeking.proofs.WordSteps.{sifting_none, sifting_more, sifted_fails, sifting_all}
+use Rattle.std.proofs.Common.{rules, ◌*◌, arith}
+use Rattle.std.proofs.lemmas.Iterator.{cases_from_any, YieldsList-from_range}
+use Rattle.seeking.specs.Inside.{Kept}
+use Rattle.seeking.proofs.WordSteps.{sifted}
 use Rattle.seeking.proofs.sifting.word_fails.Goals as goal
 
-pub loop-k-init : goal.loop-k-init
-loop-k-init c = sifting_none _ _ _ _
-
-pub returns-then-lost-ne0 : goal.returns-then-lost-ne0
-returns-then-lost-ne0 c = sifted_fails _ _ _ _
-
-pub loop-k-preserved : goal.loop-k-preserved
-loop-k-preserved c = search (rules, sifting_more)
-
 pub returns : goal.returns
-returns c = search (rules, sifting_all)
+returns c =
+    let p = c.args.planes.now in
+    sifted p.bury p.keep c.args.n c.args.word _
+    (cases_from_any _ _ _ (λ k. Unit {0}) (Kept p.bury p.keep c.args.word) c.any.ensures.ran (YieldsList-from_range 0 (2 * c.args.n) (2 * c.args.n) (cc) (omega arith))
+    (λ x q k. tt)
+    (λ x q k. (search rules, search rules)))

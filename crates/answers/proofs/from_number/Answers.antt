@@ -1,6 +1,0 @@
-use Rattle.answers.proofs.Claims.{from_large}
-use Rattle.std.proofs.Common.{rules}
-use Rattle.answers.proofs.from_number.Goals as goal
-
-pub returns-in_default : goal.returns-in_default
-returns-in_default c = search (rules, from_large)

@@ -1,4 +1,0 @@
-use Rattle.face.proofs.two.Goals as goal
-
-pub returns : goal.returns
-returns c = rw (c.answer_face.ensures, c.two.ensures)
