@@ -10,8 +10,7 @@ use Rattle.growth.specs.Meaning.{Growth}
 use Rattle.listing.specs.Meaning.{Written}
 use Rattle.voices.specs.Meaning.{Heard}
 use Rattle.weeks.specs.Meaning.{Week}
-use Rattle.refusals.specs.Meaning.{kind_number}
-use Rattle.refusals.specs.declared.Refusal.{Refusal}
+use Rattle.refusals.specs.Meaning.{Numbers}
 use Rattle.face.specs.declared.Three.{Three}
 use Rattle.face.specs.declared.CarmAnswer.{CarmAnswer}
 use Rattle.face.specs.declared.CarmCompiled.{CarmCompiled}
@@ -23,9 +22,9 @@ use Rattle.face.specs.declared.CarmHeard.{CarmHeard}
 use Rattle.face.specs.declared.CarmWeek.{CarmWeek}
 use Rattle.face.specs.declared.CarmWritten.{CarmWritten}
 
--- The three numbers of a refusal.
-abbrev pub three : Refusal → Three
-three r = record { number = kind_number r.kind; place = r.place; second = r.second }
+-- The three numbers, each 64 bits wide.
+abbrev pub three : Numbers → Three
+three r = record { number = r.number; place = r.place; second = r.second }
 
 -- "Every reply starts with the three numbers of document 01: number (0 is success), place, second."
 abbrev pub answer_face : Reply → CarmAnswer

@@ -8,6 +8,7 @@ use Rattle.situations.specs.declared.Situation.{Situation}
 use Rattle.situations.specs.Meaning.{situation_at, by_value}
 use Rattle.nodes.specs.Meaning.{full, run, evaluate_of}
 use Rattle.steps.specs.Meaning.{first_answer, first_column, first_situation}
+use Rattle.growth.specs.declared.Told.{Told}
 use Rattle.growth.specs.declared.Verdict.{Verdict}
 use Rattle.growth.specs.declared.Verdict.TheVariants.{Yes, No}
 
@@ -38,6 +39,11 @@ shown f s =
       column = first_column f s;
       answer = first_answer f s (first_column f s);
     }
+
+-- What is told of a verdict, behind the three numbers.
+abbrev pub told : Numbers → Told → Growth
+told refusal t =
+    record { refusal = refusal; verdict = t.verdict; situation = t.situation; column = t.column; answer = t.answer }
 
 -- The same of a result.
 abbrev pub verdict_told : Verdict → Growth

@@ -9,7 +9,8 @@
 #![tactic(auto)]
 
 ghost use Rattle.std.specs.Prelude.{◌≡◌};
-ghost use Rattle.growth.specs.Meaning.{growth_of, growth_told};
+ghost use Rattle.refusals.specs.Meaning.{none};
+ghost use Rattle.growth.specs.Meaning.{without, told, verdict_told, growth_of, growth_told};
 
 use answers::Answer;
 use refusals::Refusal;
@@ -29,6 +30,53 @@ pub struct Fall {
     pub situation: Situation,
     pub column: usize,
     pub answer: Answer,
+}
+
+// A verdict as it is told: its number, 1 for yes and 2 for no, and the step that a no shows. Numbers from elsewhere are taken as they come.
+#[derive(Clone, Copy)]
+pub struct Told {
+    pub verdict: u8,
+    pub situation: Situation,
+    pub column: usize,
+    pub answer: u8,
+}
+
+// A verdict that shows no step.
+fn stepless(verdict: u8) -> Told
+    ensures { told none result ≡ without none verdict }
+{
+    Told {
+        verdict,
+        situation: Situation {
+            length: 0,
+            answers: [0; 6],
+        },
+        column: 0,
+        answer: 0,
+    }
+}
+
+// Neither yes nor no, and no step.
+pub fn neither() -> Told
+    ensures { told none result ≡ without none 0 }
+{
+    stepless(0)
+}
+
+impl From<Verdict> for Told {
+    ghost from_gives = { λ verdict t. told none t ≡ verdict_told verdict };
+
+    fn from(verdict: Verdict) -> Told {
+        match verdict {
+            Verdict::Yes => stepless(1),
+            Verdict::No(fall) => Told {
+                verdict: 2,
+                situation: fall.situation,
+                column: fall.column,
+                answer: u8::from(fall.answer),
+            },
+        }
+    }
 }
 
 // Does the array keep the law that nothing it has said is lost in a merger?

@@ -4,7 +4,7 @@ use mathlib.Core.Path.{◌≡◌, refl, ap, sym, ◌∙◌}
 use mathlib.Core.Bool.{Bool, true, false, cond}
 use mathlib.Core.List.{List, ◌++◌}
 use lib.Dec.{ltb}
-use lib.ListN.{length, take, drop, replicate, length-replicate}
+use lib.ListN.{length, take, drop, replicate, length-replicate, length-append}
 use lib.Seq.{sets-eq, take_all, length-take-le}
 use borrow.Author.Tests.{le-ltb, eq-eqb, ltb-true, ltb-false}
 use native.Mathlib.Nat.{zero-add}
@@ -148,3 +148,20 @@ module _ (input lent : List ℕ) (h : 256 ≤ length lent) {n : ℕ} (e : n ≡ 
 
   pub judged_written : new ≡ cond (ltb (length lent) 256) lent (text_of (take 1024 input) ++ drop (length (text_of (take 1024 input))) lent)
   judged_written = part_written input lent h judged_printed
+
+-- the text stands within the lent buffer
+module _
+    (input lent : List ℕ)
+    {new : List ℕ}
+    {r : ℕ}
+    (e : r ≡ cond (ltb (length lent) 256) 0 (length (text_of (take 1024 input))))
+    (f : new ≡ cond (ltb (length lent) 256) lent (text_of (take 1024 input) ++ drop (length (text_of (take 1024 input))) lent)) where
+  pub text-inside : r ≤ length new
+  text-inside = rw (e, f) (go (ltb (length lent) 256) (text_of (take 1024 input)))
+    where
+      go : (b : Bool) (text : List ℕ) → cond b 0 (length text) ≤ length (cond b lent (text ++ drop (length text) lent))
+      go true text = omega arith
+      go false text = rw length-append (omega arith)
+
+  pub text_part : r ≡ length (take r new)
+  text_part = sym (length-take-le r new text-inside)

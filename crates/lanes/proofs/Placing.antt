@@ -1,6 +1,6 @@
 -- What stands at a place then, where an operator on words does in every lane what one on answers does.
 use Prim.Native.Nat.{ℕ, ◌+◌, ◌≤◌, ◌<◌}
-use mathlib.Core.Path.{◌≡◌, refl, ap}
+use mathlib.Core.Path.{◌≡◌, refl, ap, ◌∙◌}
 use mathlib.Core.Bool.{Bool, true, false}
 use mathlib.Core.List.{List}
 use lib.Dec.{ltb}
@@ -76,3 +76,12 @@ module _ (start : ℕ) {old new : List ℕ} where
         short = λ l. absurd (omega (arith, l, room));
       })
       by.short
+
+-- the same answers by another name
+pub placed_same :
+    {g h : ℕ → ℕ → Answer} {start room : ℕ} {old new : List ℕ} →
+    ((k x : ℕ) → k < 16 → x < 64 → g k x ≡ h k x) →
+    Placed g start room old new →
+    Placed h start room old new
+placed_same e p =
+    record { size = p.size; written = λ r k x l m. p.written r k x l m ∙ e k x l m; kept = p.kept; short = p.short }

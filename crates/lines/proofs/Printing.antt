@@ -4,15 +4,12 @@ use mathlib.Core.Path.{◌≡◌, refl, sym}
 use mathlib.Core.List.{List, [], ◌∷◌, ◌++◌, append-nil, append_assoc}
 use lib.ListN.{length, take, get_or}
 use lib.Seq.{take-suc, take_all}
+use borrow.Author.Tests.{eq-eqb, ne_eqb}
 use native.Mathlib.Numerals.{add-one}
 use Rattle.text.specs.declared.pages.Page.{Page}
 use Rattle.text.specs.Meaning.{Wrote, number_text}
 use Rattle.text.proofs.Printing.{wrote_then}
-use Rattle.answers.specs.Meaning.{number}
-use Rattle.growth.specs.declared.Verdict.{Verdict}
-use Rattle.growth.specs.declared.Verdict.TheVariants.{Yes, No}
-use Rattle.growth.specs.declared.Fall.{Fall}
-use Rattle.growth.specs.Meaning.{verdict_told}
+use Rattle.growth.specs.Meaning.{Growth}
 use Rattle.lines.specs.Meaning.{growth_yes, growth_no, column_word, to_word, answers_text, raised_text, growth_line}
 
 -- the answers of a situation, one behind another
@@ -50,28 +47,31 @@ pub no_done :
 no_done answers i w l = rw (take_all i answers l) at w
 
 pub raised_wrote :
-    (column answer : ℕ) {n : ℕ} {p q r s t : Page} →
-    n ≡ answer →
+    (column answer : ℕ) {p q r s t : Page} →
     Wrote p column_word q →
     Wrote q (number_text column 32) r →
     Wrote r to_word s →
-    Wrote s (number_text n 10) t →
+    Wrote s (number_text answer 10) t →
     Wrote p (raised_text column answer) t
 unfolding raised_text
-raised_wrote column answer {s = s} {t = t} e v w x y =
-    let last : Wrote s (number_text answer 10) t = rw (← e) y in
-    wrote_then (wrote_then (wrote_then v w) x) last
+raised_wrote column answer v w x y = wrote_then (wrote_then (wrote_then v w) x) y
 
-module _ (v : Verdict) {p q : Page} where
-  pub yes_wrote : v ≡ Yes → Wrote p growth_yes q → Wrote p (growth_line (verdict_told v)) q
-  unfolding growth_line
-  yes_wrote e w = rw e w
+pub growth_line_yes : (g : Growth) → g.verdict ≡ 1 → growth_line g ≡ growth_yes
+unfolding growth_line
+growth_line_yes g h = rw (eq-eqb g.verdict 1 h)
 
-  pub no_wrote :
-      (fall : Fall) {r : Page} →
-      v ≡ No fall →
-      Wrote p (growth_no ++ answers_text (take fall.situation.length fall.situation.answers)) q →
-      Wrote q (raised_text fall.column (number fall.answer)) r →
-      Wrote p (growth_line (verdict_told v)) r
-  unfolding growth_line
-  no_wrote fall e w x = rw e (wrote_then w x)
+pub yes_wrote : (g : Growth) {p q : Page} → g.verdict ≡ 1 → Wrote p growth_yes q → Wrote p (growth_line g) q
+yes_wrote g h w = rw (growth_line_yes g h) w
+
+pub no_wrote :
+    (g : Growth) {p q r : Page} →
+    (g.verdict ≡ 1 → ⊥) →
+    Wrote p (growth_no ++ answers_text (take g.situation.length g.situation.answers)) q →
+    Wrote q (raised_text g.column g.answer) r →
+    Wrote p (growth_line g) r
+unfolding growth_line
+no_wrote g h w x = rw (ne_eqb g.verdict 1 h) (wrote_then w x)
+
+-- a verdict's line is that of what is told of it
+pub told_wrote : (g h : Growth) {p q : Page} → g ≡ h → Wrote p (growth_line g) q → Wrote p (growth_line h) q
+told_wrote g h e w = rw (← e) w

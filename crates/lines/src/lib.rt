@@ -1,20 +1,20 @@
 // The lines that `tablecheck` prints for a table that compiles: the counts, and the growth check's.
 //
 // Each function writes them on a page (`text`) and promises that exactly this text then stands there and no other byte has changed;
-// where the buffer ends first, the text is cut off there. It takes any counts and any verdict of the growth check, and refuses nothing.
+// where the buffer ends first, the text is cut off there. It takes any counts and anything that is told of a verdict (whatever is not the
+// yes is a no), and refuses nothing.
 
 #![tactic(auto)]
 
 ghost use Rattle.std.specs.Prelude.{◌++◌, take};
-ghost use Rattle.answers.specs.Meaning.{number};
 ghost use Rattle.text.specs.Meaning.{Wrote};
 ghost use Rattle.compiler.specs.Meaning.{accept_compiled};
-ghost use Rattle.growth.specs.Meaning.{verdict_told};
+ghost use Rattle.refusals.specs.Meaning.{none};
+ghost use Rattle.growth.specs.Meaning.{told, verdict_told};
 ghost use Rattle.lines.specs.Meaning.{count_lines, growth_no, answers_text, raised_text, growth_line};
 
-use answers::Answer;
 use compiler::Sizes;
-use growth::Verdict;
+use growth::{Told, Verdict};
 use situations::Situation;
 use text::{LINE_FEED, Page, SPACE};
 
@@ -47,24 +47,29 @@ fn put_shown(page: &mut Page<'_>, situation: Situation)
 }
 
 // The column raised and its new answer.
-fn put_raised(page: &mut Page<'_>, column: usize, answer: Answer)
-    ensures { Wrote page.old (raised_text column (number answer)) page.new }
+fn put_raised(page: &mut Page<'_>, column: usize, answer: u8)
+    ensures { Wrote page.old (raised_text column answer) page.new }
 {
     page.bytes(b"column ");
     page.number(column, SPACE);
     page.bytes(b"to ");
-    page.number(u8::from(answer) as usize, LINE_FEED);
+    page.number(answer as usize, LINE_FEED);
+}
+
+// What is told of a verdict.
+pub fn put_told(page: &mut Page<'_>, verdict: Told)
+    ensures { Wrote page.old (growth_line (told none verdict)) page.new }
+{
+    if verdict.verdict == 1 {
+        return page.bytes(b"growth yes\n");
+    }
+    put_shown(page, verdict.situation);
+    put_raised(page, verdict.column, verdict.answer);
 }
 
 // The growth check's verdict.
 pub fn put_growth(page: &mut Page<'_>, verdict: Verdict)
     ensures { Wrote page.old (growth_line (verdict_told verdict)) page.new }
 {
-    match verdict {
-        Verdict::Yes => page.bytes(b"growth yes\n"),
-        Verdict::No(fall) => {
-            put_shown(page, fall.situation);
-            put_raised(page, fall.column, fall.answer);
-        }
-    }
+    put_told(page, Told::from(verdict));
 }

@@ -1,6 +1,6 @@
 -- What the machines, the private functions and their loops say among themselves. Nothing here has to be believed: the laws
 -- tie it to the meaning.
-use Rattle.std.specs.Prelude.{ℕ, zero, suc, ◌+◌, ◌≡◌, List, ◌∷◌, drop, get_or}
+use Rattle.std.specs.Prelude.{ℕ, zero, suc, ◌+◌, ◌-◌, ◌≤◌, ◌<◌, ◌≡◌, List, ◌∷◌, drop, get_or}
 use Rattle.answers.specs.Meaning.{turn}
 use Rattle.answers.specs.declared.Answer.{Answer}
 use Rattle.answers.specs.declared.Answer.TheVariants.{Silent}
@@ -26,3 +26,18 @@ act_turned s Foreign times stack = act s Foreign stack
 -- the turns that stand from one place on end where those from another one end
 pub record Passed (nodes : List ℕ) (start i : ℕ) : Type 0 where
   pub same : start + turns (drop start nodes) ≡ i + turns (drop i nodes)
+
+-- how many operands a node takes from the stack; it leaves one answer (another byte is refused before)
+unfoldable pub taken : Node → ℕ
+taken (Constant a) = 0
+taken (Column k) = 0
+taken Negate = 1
+taken Turn = 1
+taken Meet = 2
+taken Join = 2
+taken Foreign = 1
+
+-- a node finds its operands, and the height behind it is a word
+pub record Fits (node : Node) (height : ℕ) : Type 0 where
+  pub enough : taken node ≤ height
+  pub word : height + 1 - taken node < 18446744073709551616

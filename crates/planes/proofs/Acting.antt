@@ -18,7 +18,7 @@ use Rattle.nodes.specs.Inside.{act_turned}
 use Rattle.nodes.proofs.Climbing.{push_clear, down_clear, column-clear}
 use Rattle.lanes.specs.Meaning.{Placed, one, two}
 use Rattle.pushes.specs.Meaning.{everywhere, column_of}
-use Rattle.planes.specs.Inside.{view, lane_at, Acted}
+use Rattle.planes.specs.Inside.{view, lane_at, Acted, Acting}
 
 -- a lane's stack
 pub length-view : (i x : ℕ) (stack : List ℕ) (h : ℕ) → length (view i x stack h) ≡ h
@@ -172,3 +172,11 @@ act_foreign columns first turns place stack n =
       size = refl;
       holds = λ s height l c. absurd (let z : ◌≡◌ {A = ℕ} 9 0 = ap (λ (q : Climbed). q.fault) (rw n at c) in omega arith);
     }
+
+-- the digit of a column
+module _ (columns : ℕ) {node : Node} (y : Acting columns node) {c : ℕ} (n : node ≡ Column c) where
+  pub column-some : 1 ≤ columns
+  column-some = let l = y.column c n in omega (arith, l)
+
+  pub column-digit : c ≤ columns - 1
+  column-digit = let l = y.column c n in omega (arith, l)

@@ -31,9 +31,10 @@ use Rattle.planes.specs.Meaning.{Filled, filled, refuse_filled}
 use Rattle.answers.proofs.Claims.{number_from, number_small}
 use Rattle.steps.specs.declared.Raise.{Raise}
 use Rattle.steps.specs.Meaning.{Step, no_step, step_told}
+use Rattle.growth.specs.declared.Told.{Told}
 use Rattle.growth.specs.declared.Verdict.{Verdict}
 use Rattle.growth.specs.declared.Verdict.TheVariants.{Yes, No}
-use Rattle.growth.specs.Meaning.{Growth, without, verdict_told, growth_told}
+use Rattle.growth.specs.Meaning.{Growth, without, verdict_told, growth_told, told}
 use Rattle.listing.specs.Meaning.{Written, give_written, refuse_written, wrote}
 
 pub answered-apart : (q r : Result Answer Refusal) → answered q ≡ answered r → q ≡ r
@@ -103,6 +104,9 @@ filled-apart =
 pub wrote-apart : (q r : Result ℕ Refusal) → wrote q ≡ wrote r → q ≡ r
 wrote-apart =
     replied-apart give_written refuse_written (λ (x : Written). x.refusal) (λ a. refl) (λ n. refl) (λ a b e. ap (λ (x : Written). x.length) e)
+
+pub told-apart : (t u : Told) → told none t ≡ told none u → t ≡ u
+told-apart t u = ap (λ (g : Growth). record { verdict = g.verdict; situation = g.situation; column = g.column; answer = g.answer })
 
 -- what a reply of the growth check says of a verdict
 verdict_in : Growth → Verdict

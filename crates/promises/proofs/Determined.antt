@@ -6,6 +6,9 @@ use Rattle.promises.proofs.Apart.{answered-apart, related-apart, merged-apart}
 use Rattle.refusals.proofs.Apart.{checked-apart}
 use Rattle.refusals.proofs.U8FromKind.from as refusals-number
 use Rattle.refusals.proofs.Refusal.at as refusals-at
+use Rattle.refusals.proofs.none as refusals-none
+use Rattle.refusals.proofs.refused as refusals-refused
+use Rattle.refusals.proofs.NumbersFromRefusal.from as refusals-numbers
 use Rattle.fields.proofs.two as fields-two
 use Rattle.fields.proofs.four as fields-four
 use Rattle.fields.proofs.short_header as fields-short-header
@@ -47,6 +50,15 @@ refusals_number_determined = record { result = λ κs a x y s t p q. p ∙ sym q
 
 pub refusals_at_determined : Determined refusals-at.Kinds.ps refusals-at.Kinds.r refusals-at.Reads.Post
 refusals_at_determined = record { result = λ κs a x y s t p q. p ∙ sym q }
+
+pub refusals_none_determined : Determined refusals-none.Kinds.ps refusals-none.Kinds.r refusals-none.Reads.Post
+refusals_none_determined = record { result = λ κs a x y s t p q. p ∙ sym q }
+
+pub refusals_refused_determined : Determined refusals-refused.Kinds.ps refusals-refused.Kinds.r refusals-refused.Reads.Post
+refusals_refused_determined = record { result = λ κs a x y s t p q. p ∙ sym q }
+
+pub refusals_numbers_determined : Determined refusals-numbers.Kinds.ps refusals-numbers.Kinds.r refusals-numbers.Reads.Post
+refusals_numbers_determined = record { result = λ κs a x y s t p q. p ∙ sym q }
 
 pub fields_two_determined : Determined fields-two.Kinds.ps fields-two.Kinds.r fields-two.Reads.Post
 fields_two_determined = record { result = λ κs a x y s t p q. p.0 ∙ sym q.0 }

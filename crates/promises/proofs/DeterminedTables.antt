@@ -2,7 +2,7 @@
 -- `Post` is the contract itself, as the checker reads it off the source.
 use mathlib.Core.Path.{sym, ◌∙◌}
 use Rattle.refusals.proofs.Apart.{checked-apart}
-use Rattle.promises.proofs.Apart.{table_read-apart, compiled-apart, answered-apart, climbed-apart, filled-apart, growth_told-apart, raised-apart, wrote-apart}
+use Rattle.promises.proofs.Apart.{table_read-apart, compiled-apart, answered-apart, climbed-apart, filled-apart, told-apart, growth_told-apart, raised-apart, wrote-apart}
 use Rattle.promises.specs.Meaning.{Determined, DeterminedPart, DeterminedLent, DeterminedMade, DeterminedPage}
 use Rattle.rows.proofs.Rows.count as rows-count
 use Rattle.rows.proofs.Rows.row as rows-row
@@ -29,6 +29,8 @@ use Rattle.evaluator.proofs.evaluate as evaluator-evaluate
 use Rattle.planes.proofs.fill as planes-fill
 use Rattle.steps.proofs.step_from as steps-step-from
 use Rattle.seeking.proofs.first_step as seeking-first-step
+use Rattle.growth.proofs.neither as growth-neither
+use Rattle.growth.proofs.ToldFromVerdict.from as growth-told-verdict
 use Rattle.growth.proofs.check_growth as growth-check-growth
 use Rattle.listing.proofs.list as listing-list
 use Rattle.untable.proofs.untable as untable-untable
@@ -39,14 +41,25 @@ use Rattle.text.proofs.pages.Page.written as text-written
 use Rattle.text.proofs.pages.Page.bytes as text-bytes
 use Rattle.text.proofs.pages.Page.number as text-number
 use Rattle.text.proofs.pages.Page.line as text-line
+use Rattle.text.proofs.pages.Page.refused as text-refused
 use Rattle.text.proofs.pages.Page.refusal as text-refusal
 use Rattle.lines.proofs.put_counts as lines-put-counts
+use Rattle.lines.proofs.put_told as lines-put-told
 use Rattle.lines.proofs.put_growth as lines-put-growth
 use Rattle.judging.proofs.judge as judging-judge
 use Rattle.reports.proofs.put_record as reports-put-record
 use Rattle.reports.proofs.put_batch as reports-put-batch
 use Rattle.decimals.proofs.number_in as decimals-number-in
 use Rattle.input.proofs.move_front as input-move-front
+use Rattle.face.proofs.CarmAnswerFromTuple2NumbersAnswer.from as face-answer-numbers
+use Rattle.face.proofs.CarmAnswerFromTuple2NumbersBool.from as face-contained-numbers
+use Rattle.face.proofs.CarmCompiledFromTuple2NumbersSizes.from as face-compiled-numbers
+use Rattle.face.proofs.CarmMergedFromTuple2NumbersSituation.from as face-merged-numbers
+use Rattle.face.proofs.CarmGrowthFromTuple2NumbersTold.from as face-growth-numbers
+use Rattle.face.proofs.CarmNoticedFromTuple2NumbersUsize.from as face-noticed-numbers
+use Rattle.face.proofs.CarmHeardFromTuple2NumbersPossible.from as face-heard-numbers
+use Rattle.face.proofs.CarmWeekFromTuple2NumbersCounts.from as face-week-numbers
+use Rattle.face.proofs.CarmWrittenFromTuple2NumbersUsize.from as face-written-numbers
 use Rattle.face.proofs.CarmAnswerFromResultAnswerRefusal.from as face-answer
 use Rattle.face.proofs.CarmAnswerFromResultBoolRefusal.from as face-contained
 use Rattle.face.proofs.CarmCompiledFromResultSizesRefusal.from as face-compiled
@@ -134,6 +147,12 @@ steps_step_from_determined = record { result = λ κs a x y s t p q. raised-apar
 pub seeking_first_step_determined : Determined seeking-first-step.Kinds.ps seeking-first-step.Kinds.r seeking-first-step.Reads.Post
 seeking_first_step_determined = record { result = λ κs a x y s t p q. raised-apart _ _ x y p.1 q.1 (p.0 ∙ sym q.0) }
 
+pub growth_neither_determined : Determined growth-neither.Kinds.ps growth-neither.Kinds.r growth-neither.Reads.Post
+growth_neither_determined = record { result = λ κs a x y s t p q. told-apart x y (p ∙ sym q) }
+
+pub growth_told_verdict_determined : Determined growth-told-verdict.Kinds.ps growth-told-verdict.Kinds.r growth-told-verdict.Reads.Post
+growth_told_verdict_determined = record { result = λ κs a x y s t p q. told-apart x y (p ∙ sym q) }
+
 pub growth_check_growth_determined : Determined growth-check-growth.Kinds.ps growth-check-growth.Kinds.r growth-check-growth.Reads.Post
 growth_check_growth_determined = record { result = λ κs a x y s t p q. growth_told-apart x y (p ∙ sym q) }
 
@@ -157,40 +176,117 @@ pub text_put_bytes_determined : DeterminedLent text-put-bytes.Kinds.ps text-put-
 text_put_bytes_determined = record { result = λ κs a x y s t p q. p.ends ∙ sym q.ends; lent = λ κs a x y s t p q. p.holds ∙ sym q.holds }
 
 pub text_new_determined : DeterminedMade text-new.Kinds.ps text-new.Kinds.r text-new.Reads.Post (λ κs x. x)
-text_new_determined = record { lent = λ κs a x y s t p q. p.bytes ∙ sym q.bytes; next = λ κs a x y s t p q. p.front ∙ sym q.front }
+text_new_determined =
+    record {
+      lent = λ κs a x y s t p q. p.bytes ∙ sym q.bytes;
+      same = λ κs a x y s t p q. p.same ∙ sym q.same;
+      next = λ κs a x y s t p q. p.front ∙ sym q.front;
+    }
 
 pub text_at_determined : DeterminedMade text-at.Kinds.ps text-at.Kinds.r text-at.Reads.Post (λ κs x. x)
-text_at_determined = record { lent = λ κs a x y s t p q. p.bytes ∙ sym q.bytes; next = λ κs a x y s t p q. p.here ∙ sym q.here }
+text_at_determined =
+    record {
+      lent = λ κs a x y s t p q. p.bytes ∙ sym q.bytes;
+      same = λ κs a x y s t p q. p.same ∙ sym q.same;
+      next = λ κs a x y s t p q. p.here ∙ sym q.here;
+    }
 
 pub text_written_determined : DeterminedPart text-written.Kinds.ps 0 tt text-written.Reads.Post
 text_written_determined = record { bytes = λ κs a x y s t p q. p ∙ sym q }
 
 pub text_bytes_determined : DeterminedPage text-bytes.Kinds.ps text-bytes.Kinds.r text-bytes.Reads.Post (λ κs s. s.0.now)
 text_bytes_determined =
-    record { lent = λ κs a x y s t p q. p.printed.holds ∙ sym q.printed.holds; next = λ κs a x y s t p q. p.printed.ends ∙ sym q.printed.ends }
+    record {
+      lent = λ κs a x y s t p q. p.printed.holds ∙ sym q.printed.holds;
+      same = λ κs a x y s t p q. p.same ∙ sym q.same;
+      next = λ κs a x y s t p q. p.printed.ends ∙ sym q.printed.ends;
+    }
 
 pub text_number_determined : DeterminedPage text-number.Kinds.ps text-number.Kinds.r text-number.Reads.Post (λ κs s. s.0.now)
 text_number_determined =
-    record { lent = λ κs a x y s t p q. p.printed.holds ∙ sym q.printed.holds; next = λ κs a x y s t p q. p.printed.ends ∙ sym q.printed.ends }
+    record {
+      lent = λ κs a x y s t p q. p.printed.holds ∙ sym q.printed.holds;
+      same = λ κs a x y s t p q. p.same ∙ sym q.same;
+      next = λ κs a x y s t p q. p.printed.ends ∙ sym q.printed.ends;
+    }
 
 pub text_line_determined : DeterminedPage text-line.Kinds.ps text-line.Kinds.r text-line.Reads.Post (λ κs s. s.0.now)
 text_line_determined =
-    record { lent = λ κs a x y s t p q. p.printed.holds ∙ sym q.printed.holds; next = λ κs a x y s t p q. p.printed.ends ∙ sym q.printed.ends }
+    record {
+      lent = λ κs a x y s t p q. p.printed.holds ∙ sym q.printed.holds;
+      same = λ κs a x y s t p q. p.same ∙ sym q.same;
+      next = λ κs a x y s t p q. p.printed.ends ∙ sym q.printed.ends;
+    }
+
+pub text_refused_determined : DeterminedPage text-refused.Kinds.ps text-refused.Kinds.r text-refused.Reads.Post (λ κs s. s.0.now)
+text_refused_determined =
+    record {
+      lent = λ κs a x y s t p q. p.printed.holds ∙ sym q.printed.holds;
+      same = λ κs a x y s t p q. p.same ∙ sym q.same;
+      next = λ κs a x y s t p q. p.printed.ends ∙ sym q.printed.ends;
+    }
 
 pub text_refusal_determined : DeterminedPage text-refusal.Kinds.ps text-refusal.Kinds.r text-refusal.Reads.Post (λ κs s. s.0.now)
 text_refusal_determined =
-    record { lent = λ κs a x y s t p q. p.printed.holds ∙ sym q.printed.holds; next = λ κs a x y s t p q. p.printed.ends ∙ sym q.printed.ends }
+    record {
+      lent = λ κs a x y s t p q. p.printed.holds ∙ sym q.printed.holds;
+      same = λ κs a x y s t p q. p.same ∙ sym q.same;
+      next = λ κs a x y s t p q. p.printed.ends ∙ sym q.printed.ends;
+    }
 
 pub lines_put_counts_determined : DeterminedPage lines-put-counts.Kinds.ps lines-put-counts.Kinds.r lines-put-counts.Reads.Post (λ κs s. s.0.now)
 lines_put_counts_determined =
-    record { lent = λ κs a x y s t p q. p.printed.holds ∙ sym q.printed.holds; next = λ κs a x y s t p q. p.printed.ends ∙ sym q.printed.ends }
+    record {
+      lent = λ κs a x y s t p q. p.printed.holds ∙ sym q.printed.holds;
+      same = λ κs a x y s t p q. p.same ∙ sym q.same;
+      next = λ κs a x y s t p q. p.printed.ends ∙ sym q.printed.ends;
+    }
+
+pub lines_put_told_determined : DeterminedPage lines-put-told.Kinds.ps lines-put-told.Kinds.r lines-put-told.Reads.Post (λ κs s. s.0.now)
+lines_put_told_determined =
+    record {
+      lent = λ κs a x y s t p q. p.printed.holds ∙ sym q.printed.holds;
+      same = λ κs a x y s t p q. p.same ∙ sym q.same;
+      next = λ κs a x y s t p q. p.printed.ends ∙ sym q.printed.ends;
+    }
 
 pub lines_put_growth_determined : DeterminedPage lines-put-growth.Kinds.ps lines-put-growth.Kinds.r lines-put-growth.Reads.Post (λ κs s. s.0.now)
 lines_put_growth_determined =
-    record { lent = λ κs a x y s t p q. p.printed.holds ∙ sym q.printed.holds; next = λ κs a x y s t p q. p.printed.ends ∙ sym q.printed.ends }
+    record {
+      lent = λ κs a x y s t p q. p.printed.holds ∙ sym q.printed.holds;
+      same = λ κs a x y s t p q. p.same ∙ sym q.same;
+      next = λ κs a x y s t p q. p.printed.ends ∙ sym q.printed.ends;
+    }
 
 pub judging_judge_determined : DeterminedLent judging-judge.Kinds.ps judging-judge.Kinds.r judging-judge.Reads.Post (λ κs s. s.1.0.now)
 judging_judge_determined = record { result = λ κs a x y s t p q. p.0 ∙ sym q.0; lent = λ κs a x y s t p q. p.1 ∙ sym q.1 }
+
+pub face_answer_numbers_determined : Determined face-answer-numbers.Kinds.ps face-answer-numbers.Kinds.r face-answer-numbers.Reads.Post
+face_answer_numbers_determined = record { result = λ κs a x y s t p q. p ∙ sym q }
+
+pub face_contained_numbers_determined : Determined face-contained-numbers.Kinds.ps face-contained-numbers.Kinds.r face-contained-numbers.Reads.Post
+face_contained_numbers_determined = record { result = λ κs a x y s t p q. p ∙ sym q }
+
+pub face_compiled_numbers_determined : Determined face-compiled-numbers.Kinds.ps face-compiled-numbers.Kinds.r face-compiled-numbers.Reads.Post
+face_compiled_numbers_determined = record { result = λ κs a x y s t p q. p ∙ sym q }
+
+pub face_merged_numbers_determined : Determined face-merged-numbers.Kinds.ps face-merged-numbers.Kinds.r face-merged-numbers.Reads.Post
+face_merged_numbers_determined = record { result = λ κs a x y s t p q. p ∙ sym q }
+
+pub face_growth_numbers_determined : Determined face-growth-numbers.Kinds.ps face-growth-numbers.Kinds.r face-growth-numbers.Reads.Post
+face_growth_numbers_determined = record { result = λ κs a x y s t p q. p ∙ sym q }
+
+pub face_noticed_numbers_determined : Determined face-noticed-numbers.Kinds.ps face-noticed-numbers.Kinds.r face-noticed-numbers.Reads.Post
+face_noticed_numbers_determined = record { result = λ κs a x y s t p q. p ∙ sym q }
+
+pub face_heard_numbers_determined : Determined face-heard-numbers.Kinds.ps face-heard-numbers.Kinds.r face-heard-numbers.Reads.Post
+face_heard_numbers_determined = record { result = λ κs a x y s t p q. p ∙ sym q }
+
+pub face_week_numbers_determined : Determined face-week-numbers.Kinds.ps face-week-numbers.Kinds.r face-week-numbers.Reads.Post
+face_week_numbers_determined = record { result = λ κs a x y s t p q. p ∙ sym q }
+
+pub face_written_numbers_determined : Determined face-written-numbers.Kinds.ps face-written-numbers.Kinds.r face-written-numbers.Reads.Post
+face_written_numbers_determined = record { result = λ κs a x y s t p q. p ∙ sym q }
 
 pub face_answer_determined : Determined face-answer.Kinds.ps face-answer.Kinds.r face-answer.Reads.Post
 face_answer_determined = record { result = λ κs a x y s t p q. p ∙ sym q }
@@ -224,11 +320,19 @@ face_week_determined = record { result = λ κs a x y s t p q. p ∙ sym q }
 
 pub reports_put_record_determined : DeterminedPage reports-put-record.Kinds.ps reports-put-record.Kinds.r reports-put-record.Reads.Post (λ κs s. s.0.now)
 reports_put_record_determined =
-    record { lent = λ κs a x y s t p q. p.printed.holds ∙ sym q.printed.holds; next = λ κs a x y s t p q. p.printed.ends ∙ sym q.printed.ends }
+    record {
+      lent = λ κs a x y s t p q. p.printed.holds ∙ sym q.printed.holds;
+      same = λ κs a x y s t p q. p.same ∙ sym q.same;
+      next = λ κs a x y s t p q. p.printed.ends ∙ sym q.printed.ends;
+    }
 
 pub reports_put_batch_determined : DeterminedPage reports-put-batch.Kinds.ps reports-put-batch.Kinds.r reports-put-batch.Reads.Post (λ κs s. s.0.now)
 reports_put_batch_determined =
-    record { lent = λ κs a x y s t p q. p.printed.holds ∙ sym q.printed.holds; next = λ κs a x y s t p q. p.printed.ends ∙ sym q.printed.ends }
+    record {
+      lent = λ κs a x y s t p q. p.printed.holds ∙ sym q.printed.holds;
+      same = λ κs a x y s t p q. p.same ∙ sym q.same;
+      next = λ κs a x y s t p q. p.printed.ends ∙ sym q.printed.ends;
+    }
 
 pub decimals_number_in_determined : Determined decimals-number-in.Kinds.ps decimals-number-in.Kinds.r decimals-number-in.Reads.Post
 decimals_number_in_determined = record { result = λ κs a x y s t p q. p ∙ sym q }

@@ -15,6 +15,10 @@ use denote.Param.Laws.{Laws, IsCopy}
 use mir.Syntax.{Dict}
 use Rattle.std.specs.declared.clone.Clone as Clone
 use Rattle.sets.specs.declared.Member as Member
+use Rattle.sets.proofs.AnswerMember.number as sets-answer-number
+use Rattle.sets.proofs.BoolMember.number as sets-truth-number
+use Rattle.sets.proofs.SetFromU8.from as sets-from-number
+use Rattle.sets.proofs.U8FromSet.from as sets-number
 use Rattle.sets.proofs.Set.empty as sets-empty
 use Rattle.sets.proofs.Set.union as sets-union
 use Rattle.sets.proofs.Set.only as sets-only
@@ -53,6 +57,20 @@ codes_policy_kind_determined = record { result = λ κs a x y s t p q. p ∙ sym
 
 pub codes_test_kind_determined : Determined codes-test-kind.Kinds.ps codes-test-kind.Kinds.r codes-test-kind.Reads.Post
 codes_test_kind_determined = record { result = λ κs a x y s t p q. p ∙ sym q }
+
+pub sets_answer_number_determined : Determined sets-answer-number.Kinds.ps sets-answer-number.Kinds.r sets-answer-number.Reads.Post
+sets_answer_number_determined = record { result = λ κs a x y s t p q. p.0 ∙ sym q.0 }
+
+pub sets_truth_number_determined : Determined sets-truth-number.Kinds.ps sets-truth-number.Kinds.r sets-truth-number.Reads.Post
+sets_truth_number_determined = record { result = λ κs a x y s t p q. p.0 ∙ sym q.0 }
+
+-- of anything as members
+module _ (T : RattleType) (L : Laws T) where
+  pub sets_from_number_determined : Determined (sets-from-number.Kinds.ps T L) (sets-from-number.Kinds.r T L) (sets-from-number.Reads.Post T L)
+  sets_from_number_determined = record { result = λ κs a x y s t p q. p ∙ sym q }
+
+  pub sets_number_determined : Determined (sets-number.Kinds.ps T L) (sets-number.Kinds.r T L) (sets-number.Reads.Post T L)
+  sets_number_determined = record { result = λ κs a x y s t p q. p ∙ sym q }
 
 -- of members of any type
 module _

@@ -60,7 +60,8 @@ pub record DeterminedLent
       Post κs a y t →
       exit κs s ≡ exit κs t
 
--- The same of a function that makes a page on lent memory, and of one that writes on a page: every lent byte, and the next place.
+-- The same of a function that makes a page on lent memory, and of one that writes on a page: every byte of the buffer that the page is
+-- on, which buffer that is (so that it is the lent one in all outcomes or in none), and the next place.
 pub record DeterminedMade
     {n : ℕ}
     (ps : List (ParamKind n))
@@ -73,6 +74,11 @@ pub record DeterminedMade
       Post κs a x s →
       Post κs a y t →
       (page κs x).text.now ≡ (page κs y).text.now
+  pub same :
+      (κs : Lfts n) (a : Dens κs ps) (x y : (res_t r κs).Denot) (s t : AtExit (ended_of n ps r) κs) →
+      Post κs a x s →
+      Post κs a y t →
+      (page κs x).text.ghost_name ≡ (page κs y).text.ghost_name
   pub next :
       (κs : Lfts n) (a : Dens κs ps) (x y : (res_t r κs).Denot) (s t : AtExit (ended_of n ps r) κs) →
       Post κs a x s →
@@ -91,6 +97,11 @@ pub record DeterminedPage
       Post κs a x s →
       Post κs a y t →
       (exit κs s).text.now ≡ (exit κs t).text.now
+  pub same :
+      (κs : Lfts n) (a : Dens κs ps) (x y : (res_t r κs).Denot) (s t : AtExit (ended_of n ps r) κs) →
+      Post κs a x s →
+      Post κs a y t →
+      (exit κs s).text.ghost_name ≡ (exit κs t).text.ghost_name
   pub next :
       (κs : Lfts n) (a : Dens κs ps) (x y : (res_t r κs).Denot) (s t : AtExit (ended_of n ps r) κs) →
       Post κs a x s →

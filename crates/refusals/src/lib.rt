@@ -6,7 +6,9 @@
 #![tactic(auto)]
 
 ghost use Rattle.std.specs.Prelude.{◌≡◌};
-ghost use Rattle.refusals.specs.Meaning.{kind_number, refusal_at};
+ghost use Rattle.refusals.specs.Meaning.{none, refused, kind_number, refusal_at, numbers};
+
+use std::marker::Model;
 
 // What is wrong.
 #[derive(Clone, Copy, Debug, PartialEq, Eq)]
@@ -49,6 +51,60 @@ pub struct Refusal {
     pub kind: Kind,
     pub place: usize,
     pub second: usize,
+}
+
+// The three numbers that every reply starts with: a refusal's, or zeros. They are taken as they come, so that numbers from
+// elsewhere can be told too, of a kind or not.
+#[derive(Clone, Copy, Debug, PartialEq, Eq)]
+pub struct Numbers {
+    pub number: u8,
+    pub place: usize,
+    pub second: usize,
+}
+
+impl Model for Numbers {
+    ghost use Rattle.refusals.specs.Meaning.{Numbers};
+
+    ghost Value = { Numbers };
+
+    ghost view = { λ three. record { number = three.number; place = three.place; second = three.second } };
+
+    ghost inverse = { λ three. record { number = three.number; place = three.place; second = three.second } };
+}
+
+// The numbers of success.
+pub fn none() -> Numbers
+    ensures { result ≡ none }
+{
+    Numbers {
+        number: 0,
+        place: 0,
+        second: 0,
+    }
+}
+
+// A number at a place, with no second number.
+pub fn refused(number: u8, place: usize) -> Numbers
+    ensures { result ≡ refused number place }
+{
+    let second = 0;
+    Numbers {
+        number,
+        place,
+        second,
+    }
+}
+
+impl From<Refusal> for Numbers {
+    ghost from_gives = { λ refusal three. three ≡ numbers refusal };
+
+    fn from(refusal: Refusal) -> Numbers {
+        Numbers {
+            number: u8::from(refusal.kind),
+            place: refusal.place,
+            second: refusal.second,
+        }
+    }
 }
 
 impl Refusal {

@@ -13,6 +13,10 @@ use Rattle.text.specs.Meaning.{Wrote, number_text, refused_word}
 use Rattle.text.proofs.Printing.{wrote_none, wrote_then}
 use Rattle.reports.specs.Meaning.{number_line, number_lines}
 
+pub number_line_none : (number n : ℕ) → n ≡ 0 → number_line number n ≡ []
+unfolding number_line
+number_line_none number n h = rw (eq-eqb n 0 h)
+
 pub number_none : (number n : ℕ) (p : Page) → n ≡ 0 → Wrote p (number_line number n) p
 unfolding number_line
 number_none number n p h = rw (eq-eqb n 0 h) (wrote_none p)

@@ -1,17 +1,16 @@
 // Reports: what `weekcount` prints: a voice's record, and why the batch was refused.
 //
 // Each function writes on a page (`text`) and promises that exactly this text then stands there and no other byte has changed; where
-// the buffer ends first, the text is cut off there. It takes any name, any counts and any refusal, and refuses nothing. A record is
+// the buffer ends first, the text is cut off there. It takes any name, any counts and any numbers of a refusal, and refuses nothing. A record is
 // at most 1,200 bytes longer than its name.
 
 #![tactic(auto)]
 
-ghost use Rattle.refusals.specs.Meaning.{numbers};
 ghost use Rattle.text.specs.Meaning.{Wrote};
 ghost use Rattle.reports.specs.Meaning.{name_line, total_lines, number_line, number_lines, record_text, batch_line};
 
 use counts::Counts;
-use refusals::Refusal;
+use refusals::Numbers;
 use text::{LINE_FEED, Page, SPACE};
 
 fn put_name(page: &mut Page<'_>, name: &[u8])
@@ -63,9 +62,9 @@ pub fn put_record(page: &mut Page<'_>, name: &[u8], counts: Counts)
 }
 
 // Why a batch was refused.
-pub fn put_batch(page: &mut Page<'_>, refusal: Refusal)
-    ensures { Wrote page.old (batch_line (numbers refusal)) page.new }
+pub fn put_batch(page: &mut Page<'_>, refused: Numbers)
+    ensures { Wrote page.old (batch_line refused) page.new }
 {
     page.bytes(b"batch ");
-    page.refusal(refusal);
+    page.refused(refused);
 }

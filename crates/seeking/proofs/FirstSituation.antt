@@ -152,3 +152,14 @@ module _ (bury keep : List ℕ) (n : ℕ) where
 pub ruleset situation_laws = (situation-more, situation-found, situation-all)
 
 pub ruleset word_laws = (seeking_word, seeking_more, seeking_found, seeking_all)
+
+-- a place in a word behind a situation is a number of 64 bits
+module _ (n total : ℕ) (v : total ≡ weight n) (start : ℕ) (l : start < total) where
+  total_small : total ≤ 4096
+  total_small =
+      let most = (weight-numbered n start (rw v at l)).most in
+      let same : total ≡ 4 ^ n = v ∙ weight_power n most in
+      rw same (power_small n most)
+
+  pub seeking_sum : (k : ℕ) → k ≤ 4096 → start + k < 18446744073709551616
+  seeking_sum k m = omega (arith, total_small)

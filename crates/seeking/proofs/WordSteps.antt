@@ -171,3 +171,11 @@ module _ (bury keep : List ℕ) where
             let all : AllWithin (Kept bury keep word) (range_with_len 0 (2 * n)) 0 (length (range_with_len 0 (2 * n))) = rw e at m in
             rw (get_or-range_with_len 0 (2 * n) k 0 l, zero-add) at (all k 0 (omega arith) (rw (length-range_with_len 0 (2 * n)) l));
       }
+
+-- a word that may lose something is told so whatever it loses
+module _ (bury keep : List ℕ) (n word : ℕ) where
+  pub sifted_fails : Sifted bury keep n word true
+  sifted_fails = record { passed = λ e. absurd (never e) }
+    where
+      never : true ≡ false → ⊥
+      never e = let z : ◌≡◌ {A = ℕ} 0 1 = cc in omega arith

@@ -1,7 +1,7 @@
 -- What is made of a set's members one after another, and what a function gives of each of them.
 use Prim.Native.Nat.{ℕ, ◌*◌, ◌%◌, ◌^◌, ◌<◌}
 use mathlib.Core.Path.{◌≡◌, refl, sym, ap, ◌∙◌}
-use mathlib.Core.List.{List, [], ◌∷◌, ◌++◌, map}
+use mathlib.Core.List.{List, [], ◌∷◌, ◌++◌, map, append_assoc}
 use native.Mathlib.Omega.{arith}
 use lib.Bits.{bit_or, or_zero_r, or_zero_l}
 use Rattle.std.proofs.Common.{fold}
@@ -40,3 +40,9 @@ map-flat f (x ∷ xs) = ap (λ s. f x ∷ s) (map-flat f xs)
 pub pairs-flat : {A B C : Type 0} (f : A → B → C) (xs : List A) (ys : List B) → flat_map (λ x. map (f x) ys) xs ≡ pairs f xs ys
 pairs-flat f [] ys = refl
 pairs-flat f (x ∷ xs) ys = ap (λ s. map (f x) ys ++ s) (pairs-flat f xs ys)
+
+-- the pairs of an appended list, one part behind the other
+pub pairs-append : {A B C : Type 0} (f : A → B → C) (s t : List A) (u : List B) → pairs f (s ++ t) u ≡ pairs f s u ++ pairs f t u
+pairs-append f [] t u = refl
+pairs-append f (a ∷ s) t u =
+    ap (λ l. map (f a) u ++ l) (pairs-append f s t u) ∙ sym (append_assoc (map (f a) u) (pairs f s u) (pairs f t u))

@@ -5,3 +5,4 @@ pub mod Handed
 pub mod Meets
 pub mod Bounds
 pub mod Images
+pub mod Low

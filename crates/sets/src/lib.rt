@@ -1,8 +1,8 @@
 // Sets of what may be: of answers that a policy may give, and of truths that a test may have. An operator on sets gives everything
 // that it gives to some possible operands.
 //
-// A set is a number: of answers silent 1, bury 2, keep 4, clash 8, of truths false 1, true 2. Higher bits are not looked at and never
-// set. It refuses nothing.
+// A set is a number: of answers silent 1, bury 2, keep 4, clash 8, of truths false 1, true 2. Any number can be handed over as a set:
+// higher bits are not looked at, and no operator sets one. It refuses nothing.
 
 #![tactic(auto)]
 
@@ -75,6 +75,18 @@ impl<T> Model for Set<T> {
     ghost inverse = { λ n. record { bits = n; of = record {} } };
 }
 
+// Any number as a set: bits of no member are not looked at.
+impl<T> From<u8> for Set<T> {
+    ghost from_gives = { λ n set. set ≡ n };
+
+    fn from(bits: u8) -> Set<T> {
+        Set {
+            bits,
+            of: PhantomData,
+        }
+    }
+}
+
 // The number of a set.
 impl<T> From<Set<T>> for u8 {
     ghost from_gives = { λ set n. n ≡ set };
@@ -85,20 +97,11 @@ impl<T> From<Set<T>> for u8 {
 }
 
 impl<T: Member> Set<T> {
-    fn of_bits(bits: u8) -> Set<T>
-        ensures { result ≡ bits }
-    {
-        Set {
-            bits,
-            of: PhantomData,
-        }
-    }
-
     // The set with no member.
     pub fn empty() -> Set<T>
         ensures { result ≡ 0 }
     {
-        Set::of_bits(0)
+        Set::from(0)
     }
 
     // The set of one member.
@@ -106,7 +109,7 @@ impl<T: Member> Set<T> {
     pub fn only(member: T) -> Set<T>
         ensures { result ≡ set_of T.number (member ∷ []) }
     {
-        Set::of_bits(1 << member.number())
+        Set::from(1 << member.number())
     }
 
     // Whether it is in the set.
@@ -121,7 +124,7 @@ impl<T: Member> Set<T> {
     pub fn union(self, other: Set<T>) -> Set<T>
         ensures { result ≡ bit_or self other }
     {
-        Set::of_bits(self.bits | other.bits)
+        Set::from(self.bits | other.bits)
     }
 
     // What a function makes of a start and the members, one after another.

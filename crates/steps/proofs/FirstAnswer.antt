@@ -18,7 +18,7 @@ use Rattle.situations.specs.Meaning.{weight, digit, index, situation_at}
 use Rattle.situations.proofs.Columns.{situation_at-column}
 use Rattle.situations.proofs.Numbers.{index-situation_at}
 use Rattle.situations.proofs.Raised.{index-raised}
-use Rattle.situations.proofs.Weights.{weight_power, power_shift}
+use Rattle.situations.proofs.Weights.{weight_power, power_shift, power_small}
 use Rattle.planes.specs.Meaning.{lane}
 use Rattle.steps.specs.Meaning.{in_words, first_from, first_answer}
 use Rattle.steps.specs.Inside.{grown, AtColumn}
@@ -204,6 +204,15 @@ module _ (bury keep : List ℕ) (n w c : ℕ) (k : AtColumn n w c) where
 
     pub times_fits : (m : ℕ) → m ≤ 3 → m * b < 18446744073709551616
     times_fits m l = omega (arith, times_small m l)
+
+    pub here-inside : w < 4096
+    here-inside = omega (arith, power_small n k.here.most, k.here.inside)
+
+    pub lower_inside : bit_or w b < 4096
+    lower_inside = or_lt 12 w b here-inside (omega (arith, weight-small))
+
+    pub higher_inside : (m : ℕ) → m ≤ 3 → bit_or w (m * b) < 4096
+    higher_inside m l = or_lt 12 w (m * b) here-inside (times_small m l)
 
     module _ {g : Bool} (h : g ≡ grown bury keep w (bit_or w b)) where
       pub tried_lower :

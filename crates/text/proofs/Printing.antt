@@ -1,10 +1,10 @@
 -- Text written behind text, and the loop that copies a part.
-use Prim.Native.Nat.{ℕ, suc, ◌+◌, ◌-◌, ◌≤◌, min}
+use Prim.Native.Nat.{ℕ, suc, ◌+◌, ◌-◌, ◌≤◌, min, ◌<◌}
 use mathlib.Core.Path.{◌≡◌, refl, ap, sym, ◌∙◌}
 use mathlib.Core.Bool.{Bool, true, false}
 use mathlib.Core.List.{List, [], ◌∷◌, ◌++◌, append_assoc}
 use lib.Dec.{ltb}
-use lib.ListN.{length, take, drop, length-append, take-append-drop}
+use lib.ListN.{length, take, drop, length-append, take-append-drop, set}
 use lib.Seq.{sets, sets-eq, length-sets, length-take-le, set_out, take_all, drop-drop}
 use borrow.Rule.Slice.PartMut.{put_mid}
 use borrow.Author.Tests.{ltb-true, ltb-false}
@@ -48,6 +48,13 @@ printed_part {b} {c} {xs} {at} {r} v =
     let long : length c ≡ length b = ap length v.holds ∙ length-sets b at xs in
     let e = v.ends in
     sym (length-take-le r c (omega arith))
+
+-- one byte
+pub printed_byte : (b : List ℕ) (at x : ℕ) → at < length b → Printed b at (x ∷ []) (set b at x) (at + 1)
+printed_byte b at x h = record { ends = omega arith; holds = refl }
+
+pub printed_out : (b : List ℕ) (at x : ℕ) → length b ≤ at → Printed b at (x ∷ []) b (length b)
+printed_out b at x h = record { ends = omega arith; holds = sym (set_out b at x h) }
 
 -- what has no room is cut off
 sets_cut : (b part : List ℕ) (at count : ℕ) → length b ≤ at + count → count ≤ length part → sets b at (take count part) ≡ sets b at part

@@ -2,7 +2,7 @@
 ghost use Rattle.std.specs.Prelude.{◌≡◌, ◌≤◌, length, take};
 
 use crate::{LINE_FEED, SPACE, put_bytes, spell};
-use refusals::Refusal;
+use refusals::{Numbers, Refusal};
 
 // A lent buffer, and the place in it that is written next.
 #[derive(Drop)]
@@ -61,13 +61,20 @@ impl<'a> Page<'a> {
         self.number(n, LINE_FEED);
     }
 
-    // The one line that a refusal prints.
+    // The one line that the three numbers of a refusal print, whatever they are.
+    pub fn refused(&mut self, three: Numbers)
+        ensures { Wrote self.old (refusal_line three) self.new }
+    {
+        self.bytes(b"refused ");
+        self.number(usize::from(three.number), SPACE);
+        self.number(three.place, SPACE);
+        self.number(three.second, LINE_FEED);
+    }
+
+    // The same of a refusal.
     pub fn refusal(&mut self, refusal: Refusal)
         ensures { Wrote self.old (refusal_line (numbers refusal)) self.new }
     {
-        self.bytes(b"refused ");
-        self.number(u8::from(refusal.kind) as usize, SPACE);
-        self.number(refusal.place, SPACE);
-        self.number(refusal.second, LINE_FEED);
+        self.refused(Numbers::from(refusal));
     }
 }

@@ -1,5 +1,5 @@
 // What the words of a line stand for. Of a word that is malformed nothing is promised.
-ghost use Rattle.std.specs.Prelude.{◌<◌, ◌≤◌, length};
+ghost use Rattle.std.specs.Prelude.{◌≡◌, ◌<◌, ◌≤◌, length, take, IfOk};
 
 use carmuspeno::CarmSituation;
 use std::io;
@@ -17,7 +17,9 @@ fn next<R: Read>(source: &mut R) -> io::Result<Option<u8>> {
 }
 
 // Reads a line with its line feed: no bytes where the input ended.
-pub fn line<'a, R: Read>(source: &mut R, room: &'a mut [u8]) -> io::Result<&'a [u8]> {
+pub fn line<'a, R: Read>(source: &mut R, room: &'a mut [u8]) -> io::Result<&'a [u8]>
+    ensures { IfOk result (λ line. length line.now ≤ length room.entry.now) }
+{
     for count in 0..room.len() {
         let Some(byte) = next(source)? else {
             return Ok(&room[..count]);
@@ -78,7 +80,9 @@ fn hex_digit(byte: u8) -> u8
 }
 
 // The bytes that the text spells, put at the start of `room`.
-pub fn bytes<'a>(text: &[u8], room: &'a mut [u8]) -> &'a [u8] {
+pub fn bytes<'a>(text: &[u8], room: &'a mut [u8]) -> &'a [u8]
+    ensures { length result.now ≤ length room.entry.now }
+{
     let count = (text.len() / 2).min(room.len());
     for (byte, digits) in room.iter_mut().zip(text.chunks_exact(2)) {
         *byte = hex_digit(digits[0]) * 16 + hex_digit(digits[1]);
@@ -87,7 +91,9 @@ pub fn bytes<'a>(text: &[u8], room: &'a mut [u8]) -> &'a [u8] {
 }
 
 // As many of these bytes as the text says, at most all of them.
-pub fn front<'a>(text: &[u8], all: &'a mut [u8]) -> &'a mut [u8] {
+pub fn front<'a>(text: &[u8], all: &'a mut [u8]) -> &'a mut [u8]
+    ensures { result.now ≡ take (length result.now) all.entry.now }
+{
     let count = (number(text) as usize).min(all.len());
     &mut all[..count]
 }

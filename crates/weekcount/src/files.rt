@@ -59,11 +59,9 @@ pub fn fail(rt: &HostRuntime, path: &[u8], error: io::Error) -> Told {
 }
 
 // The name that an argument gives, in the buffer.
-pub fn name_of<'a>(
-    rt: &HostRuntime,
-    argument: usize,
-    buffer: &'a mut [u8],
-) -> io::Result<&'a [u8]> {
+pub fn name_of<'a>(rt: &HostRuntime, argument: usize, buffer: &'a mut [u8]) -> io::Result<&'a [u8]>
+    ensures { IfOk result (λ name. length name.now ≤ length buffer.entry.now) }
+{
     match rt.arg(argument, buffer) {
         Ok(length) => Ok(&buffer[..length]),
         Err(FillError::TooLong) => Err(io::Error::from_raw_os_error(NAME_TOO_LONG)),

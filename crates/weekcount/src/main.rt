@@ -12,7 +12,7 @@ mod windows;
 
 use counts::Counts;
 use files::{NAME, STORE, Told, VOICES};
-use refusals::Refusal;
+use refusals::{Numbers, Refusal};
 use std::env::{Env, FillError};
 use std::io;
 use text::Page;
@@ -34,7 +34,7 @@ fn print_record(rt: &HostRuntime, argument: usize, counts: Counts) -> io::Result
 fn print_batch(rt: &HostRuntime, refusal: Refusal) -> io::Result<()> {
     let mut text = [0u8; TEXT];
     let mut page = Page::new(&mut text);
-    reports::put_batch(&mut page, refusal);
+    reports::put_batch(&mut page, Numbers::from(refusal));
     rt.write_all(page.written())
 }
 

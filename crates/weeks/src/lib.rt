@@ -48,9 +48,13 @@ fn count_each(counts: &mut Counts, batch: &[u8], voice: &[u8]) -> Result<(), Ref
 pub fn count_onto(counts: Counts, batch: &[u8], voice: &[u8]) -> Week
     ensures { counted result ≡ onto_of counts batch.now voice.now }
 {
-    let mut counts = counts;
-    let refused = count_each(&mut counts, batch, voice).err();
-    Week { refused, counts }
+    // The counts go up where they are handed back, so that they are not copied once more.
+    let mut week = Week {
+        refused: None,
+        counts,
+    };
+    week.refused = count_each(&mut week.counts, batch, voice).err();
+    week
 }
 
 // The notices of a batch counted.

@@ -4,4 +4,4 @@ use Rattle.reports.proofs.put_batch.Goals as goal
 
 pub returns : goal.returns
 unfolding batch_line
-returns c = wrote_then c.bytes.ensures c.refusal.ensures
+returns c = wrote_then c.bytes.ensures c.refused.ensures
